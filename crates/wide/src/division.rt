@@ -1,0 +1,38 @@
+// The quotient of a product of two words.
+ghost use mathlib.Core.Path.{_≡_};
+ghost use Prim.Native.Nat.{_+_, _*_, _/_, _%_, _^_, _≤_, _<_};
+use crate::digit::digit;
+use crate::product::product;
+
+// f times k, divided by d and rounded down, modulo 2^64: 0 where d is 0.
+pub fn product_quotient(f: u64, k: u64, d: u64) -> u64
+    ensures { λ r. ⌜ r ≡ f * k / d % 2 ^ 64 ⌝ }
+{
+    if d == 0 {
+        return 0;
+    }
+    let words = product(f, k);
+    word_quotient(words.high % d, words.low, d)
+}
+
+// The quotient of a number of two words that fits one: two digits, after a shift that brings the divisor's top bit to bit 63.
+fn word_quotient(high: u64, low: u64, divisor: u64) -> u64
+    requires { ⌜ high < divisor ⌝ }
+    ensures { λ r. ⌜ r ≡ (high * 2 ^ 64 + low) / divisor ⌝ }
+{
+    let shift = top_shift(divisor);
+    let scaled = divisor << shift;
+    let top = (high << shift) + ((low / 2) >> (63 - shift));
+    let bottom = low << shift;
+    let first = digit(top, bottom / 0x1_0000_0000, scaled);
+    let second = digit(first.rest, bottom % 0x1_0000_0000, scaled);
+    first.quotient * 0x1_0000_0000 + second.quotient
+}
+
+// The shift that brings the top bit of a word to bit 63.
+fn top_shift(word: u64) -> u32
+    requires { ⌜ 0 < word ⌝ }
+    ensures { λ r. ⌜ (r < 64) × (2 ^ 63 ≤ word * 2 ^ r) × (word * 2 ^ r < 2 ^ 64) ⌝ }
+{
+    u64::leading_zeros(word)
+}
