@@ -1,6 +1,6 @@
 -- Halving the span of a capped quotient. Multiples of b grow with the factor, so where m times b is at most a the quotient is m or more,
 -- and where it is not the quotient is below m.
-use Prim.Native.Nat.{ℕ, _+_, _-_, _*_, _≤_, _<_}
+use Prim.Native.Nat.{ℕ, _-_, _*_, _≤_, _<_}
 use native.Mathlib.Nat.{le-trans, lt-of-mul-lt-mul-right}
 use native.Mathlib.Omega.{arith}
 use Rattle.wide.specs.Quotient.{LargestQuotient}

@@ -46,12 +46,12 @@ listed-same a h =
     listed-from a 0 _ (omega arith)
     (listed-from a 1 _ (omega arith) (listed-from a 2 _ (omega arith) (listed-from a 3 _ (omega arith) (listed-from a 4 _ (omega arith) (listed-from a 5 _ (omega arith) (sym (rw h at (drop-length a))))))))
 
--- columns of sums are worth the sum
-pub sum-columns : (a b : List ℕ) {s0 s1 s2 s3 s4 s5 : ℕ} → length a ≡ 6 → length b ≡ 6 → s0 ≡ getD a 0 0 + getD b 0 0 → s1 ≡ getD a 1 0 + getD b 1 0 → s2 ≡ getD a 2 0 + getD b 2 0
-    → s3 ≡ getD a 3 0 + getD b 3 0 → s4 ≡ getD a 4 0 + getD b 4 0 → s5 ≡ getD a 5 0 + getD b 5 0 → value (s0 ∷ s1 ∷ s2 ∷ s3 ∷ s4 ∷ s5 ∷ []) ≡ value a + value b
-sum-columns a b ha hb e0 e1 e2 e3 e4 e5 = rw (e0, e1, e2, e3, e4, e5) (value-sums (listed a) (listed b) ∙ ap₂ (λ (x y : List ℕ). value x + value y) (listed-same a ha) (listed-same b hb))
+-- columns of sums are worth the sum, whatever they are settled to
+pub sum-columns : (a b : List ℕ) {s0 s1 s2 s3 s4 s5 total : ℕ} → length a ≡ 6 → length b ≡ 6 → s0 ≡ getD a 0 0 + getD b 0 0 → s1 ≡ getD a 1 0 + getD b 1 0 → s2 ≡ getD a 2 0 + getD b 2 0
+    → s3 ≡ getD a 3 0 + getD b 3 0 → s4 ≡ getD a 4 0 + getD b 4 0 → s5 ≡ getD a 5 0 + getD b 5 0 → value (s0 ∷ s1 ∷ s2 ∷ s3 ∷ s4 ∷ s5 ∷ []) ≡ total → value a + value b ≡ total
+sum-columns a b ha hb e0 e1 e2 e3 e4 e5 f = sym (value-sums (listed a) (listed b) ∙ ap₂ (λ (x y : List ℕ). value x + value y) (listed-same a ha) (listed-same b hb)) ∙ rw (e0, e1, e2, e3, e4, e5) at f
 
 -- columns of multiples are worth the multiple
-pub multiple-columns : (a : List ℕ) (k : ℕ) {s0 s1 s2 s3 s4 s5 : ℕ} → length a ≡ 6 → s0 ≡ getD a 0 0 * k → s1 ≡ getD a 1 0 * k → s2 ≡ getD a 2 0 * k → s3 ≡ getD a 3 0 * k → s4 ≡ getD a 4 0 * k
-    → s5 ≡ getD a 5 0 * k → value (s0 ∷ s1 ∷ s2 ∷ s3 ∷ s4 ∷ s5 ∷ []) ≡ value a * k
-multiple-columns a k ha e0 e1 e2 e3 e4 e5 = rw (e0, e1, e2, e3, e4, e5) (value-multiples k (listed a) ∙ ap (λ (x : List ℕ). value x * k) (listed-same a ha))
+pub multiple-columns : (a : List ℕ) (k : ℕ) {s0 s1 s2 s3 s4 s5 total : ℕ} → length a ≡ 6 → s0 ≡ getD a 0 0 * k → s1 ≡ getD a 1 0 * k → s2 ≡ getD a 2 0 * k → s3 ≡ getD a 3 0 * k → s4 ≡ getD a 4 0 * k
+    → s5 ≡ getD a 5 0 * k → value (s0 ∷ s1 ∷ s2 ∷ s3 ∷ s4 ∷ s5 ∷ []) ≡ total → value a * k ≡ total
+multiple-columns a k ha e0 e1 e2 e3 e4 e5 f = sym (value-multiples k (listed a) ∙ ap (λ (x : List ℕ). value x * k) (listed-same a ha)) ∙ rw (e0, e1, e2, e3, e4, e5) at f

@@ -1,6 +1,6 @@
 -- Two digits of a long division make the quotient: the first digit's rest, with the next half below it, is what the second digit divides.
 use mathlib.Core.Path.{_≡_}
-use Prim.Native.Nat.{ℕ, _+_, _*_, _/_, _%_, _^_, _≤_, _<_}
+use Prim.Native.Nat.{ℕ, _+_, _*_, _/_, _%_, _^_, _<_}
 use native.Mathlib.Nat.{lt-of-mul-lt-mul-right, div-eq-of-lt-le}
 use native.Mathlib.Omega.{arith}
 

@@ -1,6 +1,6 @@
 -- A dividend of two words and its divisor, both times 2^s: the quotient stays, and the high word takes in the bits that leave the low word.
 use mathlib.Core.Path.{_≡_, sym, ap, _∙_}
-use Prim.Native.Nat.{ℕ, zero, suc, _+_, _-_, _*_, _/_, _%_, _^_, _≤_, _<_}
+use Prim.Native.Nat.{ℕ, _+_, _-_, _*_, _/_, _%_, _^_, _≤_, _<_}
 use native.Mathlib.Nat.{lt-trans, mul-le-mul-right, mul-lt-mul-of-pos-right, mod-eq-of-lt, lt-of-mul-lt-mul-right, div-lt-iff-lt-mul, div-add-mod', div-div-eq-div-mul, mul-div-mul-right, sub-add-cancel}
 use native.Mathlib.Omega.{arith}
 use lib.Pow.{pow-pos, pow-add}

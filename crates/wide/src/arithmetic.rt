@@ -41,7 +41,7 @@ pub fn multiple(a: [u32; 6], k: u32) -> [u32; 6]
 
 // a times k, whole: what passes 2^192 is in the carry.
 pub(crate) fn exact_multiple(a: [u32; 6], k: u32) -> Settled
-    ensures { λ r. ⌜ value (r .limbs) + modulus * r .carry ≡ value a * k ⌝ }
+    ensures { λ r. ⌜ value a * k ≡ value (r .limbs) + modulus * r .carry ⌝ }
 {
     settle(
         limb_product(a[0], k),

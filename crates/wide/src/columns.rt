@@ -1,7 +1,7 @@
 // The one chain of carries: six columns of up to 64 bits become six limbs and what is left over.
 ghost use mathlib.Core.List.{[], _∷_};
 ghost use mathlib.Core.Path.{_≡_};
-ghost use Prim.Native.Nat.{_+_, _*_, _-_, _/_, _%_, _^_, _≤_, _<_};
+ghost use Prim.Native.Nat.{_+_, _*_, _-_, _/_, _%_, _^_, _≤_};
 ghost use Rattle.wide.specs.Value.{value, modulus};
 
 // Six limbs, and the carry that counts whole multiples of 2^192.

@@ -12,7 +12,18 @@ pub fn product_quotient(f: u64, k: u64, d: u64) -> u64
         return 0;
     }
     let words = product(f, k);
-    word_quotient(words.high % d, words.low, d)
+    word_quotient(remainder(words.high, d), words.low, d)
+}
+
+// What d leaves of x. The high word is mostly below d already, and a test costs less than a division.
+fn remainder(x: u64, d: u64) -> u64
+    requires { ⌜ 0 < d ⌝ }
+    ensures { λ r. ⌜ r ≡ x % d ⌝ }
+{
+    if x < d {
+        return x;
+    }
+    x % d
 }
 
 // The quotient of a number of two words that fits one: two digits, after a shift that brings the divisor's top bit to bit 63.

@@ -1,6 +1,5 @@
 -- The limbs above those still to be compared agree, so the first two that differ decide the order.
 use borrow.Author.Needs.{needs}
-use native.Mathlib.Omega.{arith}
 use Rattle.wide.proofs.HighestLimb.{Agree, none, less, more, same, all}
 use Rattle.wide.proofs.order.at_most.Statement.{statement}
 use Rattle.wide.proofs.order.at_most.Tie as tie

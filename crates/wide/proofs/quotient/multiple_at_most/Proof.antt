@@ -2,7 +2,7 @@
 use mathlib.Core.Path.{_≡_, sym, ap, _∙_}
 use mathlib.Core.Bool.{false}
 use Prim.Native.Nat.{ℕ, _+_, _*_, _≤_, _<_}
-use native.Mathlib.Nat.{mul-comm, mul-le-mul-left}
+use native.Mathlib.Nat.{mul-le-mul-left}
 use native.Mathlib.Omega.{arith}
 use borrow.Author.Needs.{needs}
 use borrow.Author.Tests.{lt-leb}
@@ -12,12 +12,12 @@ use Rattle.wide.proofs.Bounds.{value-below}
 use Rattle.wide.proofs.quotient.multiple_at_most.Statement.{statement}
 use Rattle.wide.proofs.quotient.multiple_at_most.Tie as tie
 
-no-carry : (top r b k : ℕ) {carry : ℕ} → r + top * carry ≡ b * k → carry ≡ 0 → r ≡ k * b
+no-carry : (top r b k : ℕ) {carry : ℕ} → b * k ≡ r + top * carry → carry ≡ 0 → r ≡ k * b
 no-carry top r b k e z =
-    let f : r + top * 0 ≡ b * k = rw z at e in
+    let f : b * k ≡ r + top * 0 = rw z at e in
     omega arith
 
-some-carry : (r b k : ℕ) {top carry a : ℕ} → r + top * carry ≡ b * k → (carry ≡ 0 → ⊥) → a < top → false ≡ leb (k * b) a
+some-carry : (r b k : ℕ) {top carry a : ℕ} → b * k ≡ r + top * carry → (carry ≡ 0 → ⊥) → a < top → false ≡ leb (k * b) a
 some-carry r b k {top} {carry} {a} e n h =
     let p : 1 ≤ carry = omega arith in
     let m : top * 1 ≤ top * carry = mul-le-mul-left top p in
