@@ -1,0 +1,71 @@
+-- An accepted book means a sound chain.
+-- Ground 17 says that feeds come from lower members. Ground 18 bounds the shares of feeds 1 to m out of each member, and the members' feeds are these, each once.
+use Prim.Native.Nat.{ℕ, zero, suc, _+_, _≤_, _<_}
+use native.Mathlib.Nat.{le-of-eq, le-trans}
+use native.Mathlib.Omega.{arith}
+use mathlib.Core.Path.{_≡_, refl, ap}
+use mathlib.Core.Bool.{false, cond}
+use mathlib.Core.List.{List, [], _∷_, map, map-append}
+use lib.Dec.{eqb, leb}
+use borrow.Author.Tests.{leb-false}
+use Rattle.balance.specs.Limits.{wholeShare}
+use Rattle.balance.specs.Book.{members, feedCount, share, from, feedsOf}
+use Rattle.balance.specs.Grounds.{someIn}
+use Rattle.balance.specs.Refusals.{walk, sharesOut, feedNotFromLower}
+use Rattle.balance.specs.Chain.{feedOf, chainOf}
+use Rattle.balance.specs.Private.Sound.{Sound, FromBelow, sharesFrom, feedsBelow}
+use Rattle.balance.specs.Promises.{Accepted}
+use Rattle.balance.proofs.NoneMet.{neither, none-below}
+use Rattle.balance.proofs.Passes.{accepted-passes}
+use Rattle.balance.proofs.Ranges.{accepted-ranges}
+use Rattle.balance.proofs.Origin.{sumBelow}
+use Rattle.balance.proofs.Walk.{Listed}
+use Rattle.balance.proofs.OnceEach.{sumOver, once-each}
+use Rattle.balance.proofs.BookFeeds.{walk-listed}
+
+module _ (book : List ℕ) where
+  from-below : (i : ℕ) (js : List ℕ) → someIn js (λ j. leb i (from book j)) ≡ false → FromBelow i (map (feedOf book) js)
+  unfolding someIn
+  from-below i [] none = tt
+  from-below i (j ∷ js) none =
+      let parts = neither (leb i (from book j)) _ none in
+      (leb-false i (from book j) (parts .0), from-below i js (parts .1))
+
+  feeds-walked : (k : ℕ) → feedsBelow (chainOf book) k ≡ map (feedOf book) (walk book k)
+  unfolding walk
+  feeds-walked zero = refl
+  feeds-walked (suc k) = rw (feeds-walked k, map-append)
+
+  -- The share that leaves member i at a feed's place.
+  abbrev shareOut : ℕ → ℕ → ℕ
+  shareOut i j = cond (eqb (from book (suc j)) i) (share book (suc j)) 0
+
+  shares-listed : (i m : ℕ) (js : List ℕ) → Listed m js → sharesFrom i (map (feedOf book) js) ≡ sumOver (shareOut i) js
+  shares-listed i m [] listed = refl
+  shares-listed i m (zero ∷ js) listed = absurd (omega (arith, listed .0))
+  shares-listed i m (suc j ∷ js) listed = let ih = shares-listed i m js (listed .2) in omega arith
+
+  shares-summed : (i m : ℕ) → sumBelow (shareOut i) m ≡ sharesOut book i m
+  unfolding sharesOut
+  shares-summed i zero = refl
+  shares-summed i (suc m) = ap (λ y. y + shareOut i m) (shares-summed i m)
+
+  module _ (accepted : Accepted book) where
+    shares-at-most : (i : ℕ) → i < members book → sharesFrom i (feedsBelow (chainOf book) (members book)) ≤ wholeShare
+    shares-at-most i l =
+        let ranges = accepted-ranges book accepted in
+        let m = feedCount book in
+        let js = walk book (members book) in
+        let listed = walk-listed book accepted in
+        rw (feeds-walked (members book), shares-listed i m js listed)
+        (le-trans
+        (once-each (shareOut i) m js listed (λ j h. le-of-eq (ranges .feed j h .once)))
+        (rw (shares-summed i m) (ranges .member i l .shares-out)))
+
+    pub accepted-sound : Sound wholeShare (chainOf book)
+    unfolding feedNotFromLower
+    accepted-sound =
+        record {
+          from-lower = λ k l. from-below k (feedsOf book k) (none-below (members book) _ (accepted-passes book accepted .from-lower) k l);
+          shares-out = shares-at-most;
+        }

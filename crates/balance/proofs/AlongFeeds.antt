@@ -1,0 +1,89 @@
+-- Summing a member's inflow along its feeds: what is summed so far and the inflow of the feeds still ahead make the whole inflow.
+-- A turn moves the next feed from the second part to the first, so no partial sum is above the whole.
+use Prim.Native.Nat.{ℕ, zero, suc, _+_, _-_, _*_, _≤_, _<_}
+use mathlib.Core.Path.{_≡_, refl, sym, _∙_, ap}
+use mathlib.Core.List.{List}
+use native.Mathlib.Omega.{arith}
+use lib.ListN.{length, getD}
+use Rattle.balance.specs.Limits.{wholeShare}
+use Rattle.balance.specs.Book.{along}
+use Rattle.balance.specs.Balance.{G, inflow}
+use Rattle.balance.specs.Private.Fillable.{Linked, feedsFrom}
+
+module _ (shares froms nexts factors : List ℕ) where
+  abbrev pub ahead : ℕ → ℕ → ℕ
+  ahead left feed = inflow factors (feedsFrom shares froms nexts left feed)
+
+  -- Share times factor, of the feed at a place.
+  abbrev pub part : ℕ → ℕ
+  part place = getD shares place 0 * getD factors (getD froms place 0) 0
+
+  pub ahead-turn : (left feed : ℕ) → 0 < left → (feed ≡ 0 → ⊥) →
+      ahead left feed ≡ part (feed - 1) + ahead (left - 1) (getD nexts (feed - 1) 0)
+  unfolding along
+  ahead-turn zero feed l h = absurd (omega arith)
+  ahead-turn (suc left) zero l h = absurd (h refl)
+  ahead-turn (suc left) (suc feed) l h =
+      let e : suc left - 1 ≡ left = omega arith in
+      rw e
+
+  pub ahead-end : (left : ℕ) → ahead left 0 ≡ 0
+  unfolding along
+  ahead-end zero = refl
+  ahead-end (suc left) = refl
+
+  pub ahead-cut : (feed : ℕ) → ahead 0 feed ≡ 0
+  unfolding along
+  ahead-cut feed = refl
+
+pub linked-within : {first feeds count more : ℕ} {froms nexts : List ℕ} → count ≤ more → Linked first feeds count froms nexts →
+    Linked first feeds more froms nexts
+linked-within h linked =
+    record { few = linked .few; start = linked .start; next = linked .next; from = λ k l. omega (arith, linked .from k l) }
+
+pub record Summed (first feeds : ℕ) (shares froms nexts factors : List ℕ) (sum feed left : ℕ) : Type 0 where
+  pub linked : Linked first feeds (length factors) froms nexts
+  pub bound : ahead shares froms nexts factors (feeds + 1) first ≤ wholeShare * G
+  pub here : feed ≤ feeds
+  pub turns : left ≤ feeds + 1
+  pub total : sum + ahead shares froms nexts factors left feed ≡ ahead shares froms nexts factors (feeds + 1) first
+
+module _ {first feeds : ℕ} {shares froms nexts factors : List ℕ} where
+  pub summed-none :
+      Linked first feeds (length factors) froms nexts →
+      ahead shares froms nexts factors (feeds + 1) first ≤ wholeShare * G →
+      Summed first feeds shares froms nexts factors 0 first (feeds + 1)
+  summed-none linked bound =
+      record { linked = linked; bound = bound; here = linked .start; turns = omega arith; total = omega arith }
+
+  pub summed-from : {sum feed left : ℕ} → Summed first feeds shares froms nexts factors sum feed left → (feed ≡ 0 → ⊥) →
+      getD froms (feed - 1) 0 < length factors
+  summed-from {sum} {feed} s h = s .linked .from (feed - 1) (omega arith)
+
+  pub summed-fits : {sum feed left : ℕ} → Summed first feeds shares froms nexts factors sum feed left → 0 < left → (feed ≡ 0 → ⊥) →
+      sum + part shares froms nexts factors (feed - 1) ≤ wholeShare * G
+  summed-fits {sum} {feed} {left} s l h = omega (arith, ahead-turn shares froms nexts factors left feed l h, s .total, s .bound)
+
+  pub summed-more : {sum feed left : ℕ} → Summed first feeds shares froms nexts factors sum feed left → 0 < left → (feed ≡ 0 → ⊥) →
+      Summed first feeds shares froms nexts factors (sum + part shares froms nexts factors (feed - 1)) (getD nexts (feed - 1) 0) (left - 1)
+  summed-more {sum} {feed} {left} s l h =
+      record {
+        linked = s .linked;
+        bound = s .bound;
+        here = s .linked .next (feed - 1) (omega arith);
+        turns = omega arith;
+        total = omega (arith, ahead-turn shares froms nexts factors left feed l h, s .total);
+      }
+
+  pub summed-at-end : {sum feed left : ℕ} → Summed first feeds shares froms nexts factors sum feed left → feed ≡ 0 →
+      sum ≡ ahead shares froms nexts factors (feeds + 1) first
+  summed-at-end {sum} {feed} {left} s e =
+      let none : ahead shares froms nexts factors left feed ≡ 0 = rw e (ahead-end shares froms nexts factors left) in
+      omega (arith, s .total, none)
+
+  pub summed-at-cut : {sum feed left : ℕ} → Summed first feeds shares froms nexts factors sum feed left → left ≤ 0 →
+      sum ≡ ahead shares froms nexts factors (feeds + 1) first
+  summed-at-cut {sum} {feed} {left} s l =
+      let e : left ≡ 0 = omega arith in
+      let none : ahead shares froms nexts factors left feed ≡ 0 = rw e (ahead-cut shares froms nexts factors feed) in
+      omega (arith, s .total, none)

@@ -1,0 +1,33 @@
+-- `balance::call::check_call` meets its contract. The checks are chosen from in the order of the list: the rate, the book's, the list's length.
+use borrow.Author.Needs.{needs}
+use mathlib.Core.Path.{_≡_, ap}
+use mathlib.Core.Bool.{Bool}
+use mathlib.Core.List.{List, [], _∷_, _++_}
+use Rattle.balance.specs.Grounds.{Ground, ground, choose, firstMet, orElse}
+use Rattle.balance.specs.declared.Checked.{Checked}
+use Rattle.balance.specs.declared.Checked.the-variants.{Passed, Refused}
+use Rattle.balance.specs.declared.Refusal.the-variants.{RateTooHigh, ListTooShort}
+use Rattle.balance.specs.Limits.{maxRate}
+use Rattle.balance.specs.Refusals.{bookGrounds}
+use lib.Dec.{ltb}
+use Rattle.balance.proofs.FirstMet.{first-of-both}
+use Rattle.balance.proofs.call.check_call.Statement.{statement}
+use Rattle.balance.proofs.call.check_call.Tie as tie
+
+-- What the call's checks find, from what each finds.
+found-first :
+    (gs : List Ground) (high : Bool) {short met : Bool} {r found book list : Checked} →
+    r ≡ choose high (Refused RateTooHigh) found → found ≡ orElse book list → book ≡ firstMet gs →
+    list ≡ choose met (Refused ListTooShort) Passed → met ≡ short →
+    r ≡ choose high (Refused RateTooHigh) (firstMet (gs ++ (ground ListTooShort short ∷ [])))
+found-first gs high {short} e f b l m = rw (first-of-both gs (ground ListTooShort short ∷ [])) (cc)
+
+returns : tie.Need-returns
+returns c =
+    let listed = c .before .before .before in
+    let start = listed .before in
+    found-first (bookGrounds (start .before .before .args .book .now)) (ltb maxRate (start .before .before .args .v)) (c .refuse-if2 .ensures) (c .before .or-else .ensures) (c .before .before .check-book .ensures)
+    (listed .refuse-if .ensures) (ap (ltb (start .before .before .args .room)) (start .u8-at .ensures .0))
+
+pub check-call-spec : {M : Type 1} → statement M
+check-call-spec = tie.close (tie.spec (search needs) (search needs) (search needs) (search needs) (search needs) returns)

@@ -1,0 +1,36 @@
+-- `balance::checks::feeds::feed_wrong` meets its contract. Each part of the disjunction is what the callees return.
+use borrow.Author.Needs.{needs}
+use mathlib.Core.Path.{_∙_, ap, ap₂}
+use lib.Dec.{leb, ltb}
+use Rattle.balance.specs.Limits.{wholeShare}
+use Rattle.balance.specs.Refusals.{outside}
+use Rattle.balance.proofs.Either.{either-is}
+use Rattle.balance.proofs.checks.feeds.feed_wrong.Statement.{statement}
+use Rattle.balance.proofs.checks.feeds.feed_wrong.Tie as tie
+
+returns : tie.Need-returns
+returns c =
+    let feeds = c .before .before in
+    let from = feeds .before in
+    let members = from .before .before in
+    let shares = members .before .is-outside .ensures ∙ ap (λ s. outside 1 wholeShare s) (members .before .before .share-of .ensures) in
+    let froms = ap₂ (λ n f. leb n f) (members .member-count .ensures .0) (from .before .from-of .ensures) in
+    let nexts = ap₂ (λ m k. ltb m k) (feeds .feed-count .ensures .0) (c .before .next-of .ensures) in
+    either-is (c .either2 .ensures) (either-is (from .either .ensures) shares froms) nexts
+
+pub feed-wrong-spec : {M : Type 1} → statement M
+feed-wrong-spec =
+    tie.close
+    (tie.spec
+    (search needs)
+    (search needs)
+    (search needs)
+    (search needs)
+    (search needs)
+    (search needs)
+    (search needs)
+    (search needs)
+    (search needs)
+    (search needs)
+    (search needs)
+    returns)

@@ -1,0 +1,43 @@
+-- `balance::checks::shares::shares_out_too_high` meets its contract. After i turns it has tested the first i members.
+use borrow.Author.Needs.{needs}
+use Prim.Native.Nat.{_-_}
+use lib.Dec.{ltb}
+use mathlib.Core.Path.{ap}
+use Rattle.balance.specs.Limits.{wholeShare}
+use Rattle.balance.specs.Book.{members, feedCount}
+use Rattle.balance.specs.Refusals.{sharesOut, sharesOutTooHigh}
+use Rattle.balance.proofs.Tested.{Tested, none, more, all}
+use Rattle.balance.proofs.checks.shares.shares_out_too_high.Statement.{statement}
+use Rattle.balance.proofs.checks.shares.shares_out_too_high.Tie as tie
+
+abbrev Inv-loop : tie.InvT-loop
+Inv-loop book count found₀ i₀ found i = Tested (λ i. ltb wholeShare (sharesOut book i (feedCount book))) (members book) count i found
+
+abbrev μ-loop : tie.MeasureT-loop
+μ-loop book count found₀ i₀ found i = count - i
+
+loop-holds : tie.Need-loop-holds Inv-loop μ-loop
+loop-holds c = none (c .member-count .ensures .0)
+
+loop-again : tie.Need-loop-again Inv-loop μ-loop
+loop-again c =
+    more (c .before .before .before .loop .inv) (c .before .before .loop-test .taken) (c .either .ensures) (ap (λ x. ltb wholeShare x) (c .before .shares-out .ensures))
+
+returns : tie.Need-returns Inv-loop μ-loop
+unfolding sharesOutTooHigh
+returns c = all (c .before .loop .inv) (c .loop-test .left)
+
+pub shares-out-too-high-spec : {M : Type 1} → statement M
+shares-out-too-high-spec =
+    tie.close
+    (tie.spec
+    Inv-loop
+    μ-loop
+    (search needs)
+    loop-holds
+    (search needs)
+    (search needs)
+    (search needs)
+    (search needs)
+    loop-again
+    returns)

@@ -1,0 +1,12 @@
+pub mod Bytes
+pub mod Limits
+pub mod Book
+pub mod Grounds
+pub mod Refusals
+pub mod Chain
+pub mod Table
+pub mod Balance
+pub mod Exact
+pub mod Factors
+pub mod Promises
+pub mod Private
