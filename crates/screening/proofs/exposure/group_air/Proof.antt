@@ -1,0 +1,20 @@
+-- `screening::exposure::group_air` meets its contract: the hours and the breathing are each within their limit.
+use Prim.Native.Nat.{_*_, _≤_}
+use native.Mathlib.Nat.{mul-le-mul}
+use native.Mathlib.Omega.{arith}
+use borrow.Author.Needs.{needs}
+use Rattle.screening.proofs.WithinLimits.{group-within}
+use Rattle.screening.proofs.exposure.group_air.Statement.{statement}
+use Rattle.screening.proofs.exposure.group_air.Tie as tie
+
+small : (c : tie.After-group-hours) → c .group-hours .result * c .before .args .group .breathing ≤ 87840000
+small c = mul-le-mul (c .group-hours .ensures .1) (group-within (c .before .args .group) (c .before .pre) .breathing)
+
+mul-result : tie.Need-mul-result
+mul-result c = record { fits = omega (arith, small (c .before)) }
+
+returns : tie.Need-returns
+returns c = (rw (c .before .group-hours .ensures .0), small (c .before))
+
+pub group-air-spec : {M : Type 1} → statement M
+group-air-spec = tie.close (tie.spec (λ c κs. search needs) (λ c. search needs) mul-result returns)

@@ -1,0 +1,3 @@
+-- Laws of texts: how one grows, and what a number's decimal digits are.
+pub mod Added
+pub mod Digits

@@ -1,0 +1,42 @@
+-- X, Y and Z over both groups (document 01, "Verdict"), and ground 6.
+use Prim.Native.Nat.{ℕ, _+_, _*_}
+use mathlib.Core.Bool.{Bool, cond, _||_}
+use lib.Dec.{ltb, eqb}
+use Rattle.screening.specs.declared.exposure.Group.{Group}
+use Rattle.screening.specs.declared.exposure.Exposure.{Exposure}
+use Rattle.screening.specs.declared.exposure.ExposureAnswer.{ExposureAnswer}
+
+-- The sum of EF·ED·ET·IRA.
+abbrev pub X : Exposure → ℕ
+X e =
+    e .child .days * e .child .years * e .child .hours * e .child .breathing
+    + e .adult .days * e .adult .years * e .adult .hours * e .adult .breathing
+
+-- The sum of EF·ED·ET.
+abbrev pub Y : Exposure → ℕ
+Y e = e .child .days * e .child .years * e .child .hours + e .adult .days * e .adult .years * e .adult .hours
+
+-- The sum of ED.
+abbrev pub Z : Exposure → ℕ
+Z e = e .child .years + e .adult .years
+
+-- The defaults of source 001, supplied by name: a resident and a worker.
+abbrev pub group : ℕ → ℕ → ℕ → ℕ → Group
+group days years hours breathing = record { days = days; years = years; hours = hours; breathing = breathing }
+
+abbrev pub residential : Exposure
+residential = record { child = group 350 6 24 10; adult = group 350 20 24 20 }
+
+abbrev pub worker : Exposure
+worker = record { child = group 0 0 0 0; adult = group 250 25 8 60 }
+
+-- A group has EF over 366, ED over 100, ET over 24 or IRA over 100.
+abbrev pub groupOutOfRange : Group → Bool
+groupOutOfRange g = ltb 366 (g .days) || ltb 100 (g .years) || ltb 24 (g .hours) || ltb 100 (g .breathing)
+
+unfoldable pub exposureOutOfRange : Exposure → Bool
+exposureOutOfRange e = groupOutOfRange (e .child) || groupOutOfRange (e .adult) || eqb (Z e) 0
+
+-- What the constructor of an exposure answers: ground 6, or the exposure.
+abbrev pub exposureAnswer : Exposure → ExposureAnswer
+exposureAnswer e = cond (exposureOutOfRange e) ExposureAnswer.OutOfRange (ExposureAnswer.Within e)

@@ -1,0 +1,10 @@
+pub mod Job
+pub mod Exposure
+pub mod Reading
+pub mod Refusals
+pub mod Verdict
+pub mod WorkingLevels
+pub mod Screening
+pub mod Report
+pub mod Promises
+pub mod Private

@@ -1,0 +1,86 @@
+-- The verdict on risk or yearly dose, and the screening level (document 01, "Verdict").
+use Prim.Native.Nat.{ℕ, zero, suc, _+_, _*_, _/_, _^_, min}
+use mathlib.Core.Bool.{Bool, true, false, cond}
+use mathlib.Core.List.{List}
+use lib.Dec.{leb, eqb}
+use Rattle.balance.specs.Balance.{G}
+use Rattle.screening.specs.Exposure.{X, Y, Z}
+use Rattle.screening.specs.declared.exposure.Exposure.{Exposure}
+use Rattle.screening.specs.declared.verdict.Kind.{Kind}
+use Rattle.screening.specs.declared.verdict.Verdict.{Verdict}
+use Rattle.screening.specs.declared.verdict.Verdict.the-variants.{Below, Close, Above}
+
+-- Kinds 0, 1.
+abbrev pub kindOf : ℕ → Kind
+kindOf zero = Kind.Risk
+kindOf (suc code) = Kind.Dose
+
+-- f 0 + … + f (n - 1)
+unfoldable pub sumBelow : ℕ → (ℕ → ℕ) → ℕ
+sumBelow zero f = 0
+sumBelow (suc n) f = sumBelow n f + f n
+
+-- Which of a member's five numbers is the inhalation coefficient, and which the submersion coefficient.
+abbrev pub inhalation : Kind → ℕ
+inhalation Kind.Risk = 0
+inhalation Kind.Dose = 2
+
+abbrev pub submersion : Kind → ℕ
+submersion Kind.Risk = 1
+submersion Kind.Dose = 3
+
+-- q(i) = 365·X·h + Y·s, of the coefficients in use.
+abbrev pub weightOf : Kind → Exposure → (ℕ → ℕ → ℕ) → ℕ → ℕ
+weightOf kind exposure coefficient i =
+    365 * X exposure * coefficient i (inhalation kind) + Y exposure * coefficient i (submersion kind)
+
+-- B.
+abbrev pub bound : Kind → Exposure → ℕ → ℕ
+bound Kind.Risk exposure target = target * 37 * 8760 * 10 ^ 8 * G
+bound Kind.Dose exposure target = target * Z exposure * 37 * 8760 * 10 ^ 7 * G
+
+-- What a verdict is reached on: so many members, the weight q and the reported factor of each, in grains, and B.
+pub record Assessment : Type 0 where
+  pub count : ℕ
+  pub weight : ℕ → ℕ
+  pub factor : ℕ → ℕ
+  pub limit : ℕ
+
+abbrev pub raised : Assessment → ℕ → ℕ
+raised a i = min (a .factor i + 2 * i) G
+
+-- Low: C × the sum of q(i) × reported factor.
+abbrev pub low : Assessment → ℕ → ℕ
+low a C = C * sumBelow (a .count) (λ i. a .weight i * a .factor i)
+
+-- High: the same with 2i added to each factor, capped at G.
+abbrev pub high : Assessment → ℕ → ℕ
+high a C = C * sumBelow (a .count) (λ i. a .weight i * raised a i)
+
+-- The gap, in the scale of B.
+abbrev pub gap : Assessment → ℕ → ℕ
+gap a C = C * sumBelow (a .count) (λ i. 2 * i * a .weight i)
+
+-- 'Below': High ≤ B. 'Above': Low > B. Otherwise 'close'.
+abbrev pub verdictOf : ℕ → ℕ → ℕ → Verdict
+verdictOf L H B = cond (leb H B) Below (cond (leb L B) Close Above)
+
+abbrev pub verdictAt : Assessment → ℕ → Verdict
+verdictAt a C = verdictOf (low a C) (high a C) (a .limit)
+
+-- From best to worst.
+abbrev pub badness : Verdict → ℕ
+badness Below = 0
+badness Close = 1
+badness Above = 2
+
+-- The largest q from 0 to cap with q × b ≤ a.
+abbrev pub cappedQuotient : ℕ → ℕ → ℕ → ℕ
+cappedQuotient cap a b = cond (eqb b 0) cap (min cap (a / b))
+
+-- The screening level: High is C times its value at 1, so this is the largest C with High ≤ B (`level-largest` of the promises).
+abbrev pub maxLevel : ℕ
+maxLevel = 4000000000
+
+unfoldable pub level : Assessment → ℕ
+level a = cappedQuotient maxLevel (a .limit) (high a 1)

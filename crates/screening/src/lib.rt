@@ -1,0 +1,36 @@
+// Screening of a room: from the bytes of a job and its chain book to the verdict on risk or yearly dose.
+mod answer;
+mod binary64;
+mod check;
+mod conversion;
+mod exposure;
+mod fields;
+mod figures;
+mod grounds;
+mod intake;
+mod job;
+mod reading;
+mod report;
+mod rounding;
+mod screened;
+mod verdict;
+mod weighted;
+mod working;
+mod writing;
+
+pub use answer::text;
+pub use conversion::whole;
+pub use exposure::Exposure;
+pub use exposure::ExposureAnswer;
+pub use exposure::Group;
+pub use job::Answer;
+pub use job::Figures;
+pub use job::JobRefusal;
+pub use job::Outcome;
+pub use job::report_job;
+pub use job::screen_job;
+pub use reading::Amount;
+pub use reading::Whole;
+pub use report::Text;
+pub use verdict::Verdict;
+pub use working::WorkingLevels;
