@@ -1,0 +1,369 @@
+"""Document 01 in exact whole numbers and fractions: the check from outside.
+
+It follows the document's order and words and shares nothing with the proved program.
+A job on standard input gives the text of `screen` on standard output;
+with --check it also asserts, on that job, what demand 3 promises.
+"""
+
+import struct
+import sys
+from collections import namedtuple
+from fractions import Fraction
+
+
+class Refused(Exception):
+    """A ground for refusal; it carries the ground's number."""
+
+    def __init__(self, number):
+        super().__init__(number)
+        self.number = number
+
+
+def refuse_if(met, number):
+    if met:
+        raise Refused(number)
+
+
+# ---- Book and job -------------------------------------------------------------------------------
+
+Group = namedtuple("Group", "EF ED ET IRA")
+Job = namedtuple("Job", "v kind medium unit target AF value uncertainty child adult")
+Member = namedtuple("Member", "T inhalation_risk submersion_risk inhalation_dose submersion_dose w")
+Feed = namedtuple("Feed", "share from_")
+Book = namedtuple("Book", "n W members feeds_into")  # feeds_into[i]: the feeds of member i, in order
+
+RISK, DOSE = 0, 1
+INDOOR_AIR, SOIL_GAS, GROUNDWATER = 0, 1, 2
+MOST = 4_000_000_000  # the limit of a concentration, of a coefficient and of a weight
+
+RESIDENTIAL = (Group(350, 6, 24, 10), Group(350, 20, 24, 20))
+WORKER = (Group(0, 0, 0, 0), Group(250, 25, 8, 60))
+
+
+# ---- Balance ------------------------------------------------------------------------------------
+
+G = 2**40  # grains in one
+K = 249_532_985_160_000  # 0.693147181 times 3.6 * 10^14
+
+
+def reported_factors(v, book):
+    """The factor of each member in grains, rounded down twice."""
+    factors = [G]
+    for i in range(1, book.n):
+        inflow = sum(feed.share * factors[feed.from_] for feed in book.feeds_into[i])
+        F = inflow // 100_000
+        factors.append(F * K // (K + v * book.members[i].T))
+    return factors
+
+
+def exact_factors(v, book):
+    """The same without rounding, as fractions of G."""
+    factors = [Fraction(1)]
+    for i in range(1, book.n):
+        inflow = sum(feed.share * factors[feed.from_] for feed in book.feeds_into[i])
+        factors.append(inflow / 100_000 * Fraction(K, K + v * book.members[i].T))
+    return factors
+
+
+def exact_denominators(v, book):
+    """For member i the product of 100,000 * (K + v * T) over members 1 to i."""
+    products = [1]
+    for member in book.members[1:]:
+        products.append(products[-1] * 100_000 * (K + v * member.T))
+    return products
+
+
+# ---- Reading ------------------------------------------------------------------------------------
+
+PER_UNIT = {0: 37_000, 1: 37, 2: 1_000}  # mBq/m3 in one pCi/L, pCi/m3, Bq/m3
+
+
+def rounded_up(numerator, denominator):
+    return -(-numerator // denominator)
+
+
+def is_reading(bits):
+    """Not infinite, not a number, nor with its sign bit set (minus zero has it set too)."""
+    sign = bits >> 63
+    exponent = bits >> 52 & 0x7FF
+    return sign == 0 and exponent != 0x7FF
+
+
+def converted(bits, unit):
+    """The smallest whole number of mBq/m3 not below the exact value of the f64."""
+    (number,) = struct.unpack("<d", struct.pack("<Q", bits))
+    exact = Fraction.from_float(number) * PER_UNIT[unit]
+    return rounded_up(exact.numerator, exact.denominator)
+
+
+def indoors(total, medium, AF):
+    """C: the reading carried into indoor air."""
+    if medium == SOIL_GAS:
+        return rounded_up(total * AF, 1_000_000)
+    if medium == GROUNDWATER:
+        return rounded_up(total * 434 * AF, 100_000_000)
+    return total
+
+
+def concentration(job):
+    """C, or refusal 8."""
+    value = converted(job.value, job.unit)
+    uncertainty = converted(job.uncertainty, job.unit)
+    refuse_if(value > MOST or uncertainty > MOST or value + uncertainty > MOST, 8)
+    C = indoors(value + uncertainty, job.medium, job.AF)
+    refuse_if(C > MOST, 8)
+    return C
+
+
+# ---- Verdict ------------------------------------------------------------------------------------
+
+
+def X(groups):
+    return sum(g.EF * g.ED * g.ET * g.IRA for g in groups)
+
+
+def Y(groups):
+    return sum(g.EF * g.ED * g.ET for g in groups)
+
+
+def Z(groups):
+    return sum(g.ED for g in groups)
+
+
+def q(job, member):
+    groups = (job.child, job.adult)
+    if job.kind == RISK:
+        inhalation, submersion = member.inhalation_risk, member.submersion_risk
+    else:
+        inhalation, submersion = member.inhalation_dose, member.submersion_dose
+    return 365 * X(groups) * inhalation + Y(groups) * submersion
+
+
+def B(job):
+    if job.kind == RISK:
+        return job.target * 37 * 8_760 * 10**8 * G
+    return job.target * Z((job.child, job.adult)) * 37 * 8_760 * 10**7 * G
+
+
+def low_sum(job, book):
+    """The sum of q(i) * reported factor; Low is C times this."""
+    factors = reported_factors(job.v, book)
+    return sum(q(job, member) * f for member, f in zip(book.members, factors))
+
+
+def high_sum(job, book):
+    """The same with 2i added to each factor, capped at G; High is C times this."""
+    factors = reported_factors(job.v, book)
+    return sum(q(job, book.members[i]) * min(factors[i] + 2 * i, G) for i in range(book.n))
+
+
+def exact_sum(job, book):
+    """The same with exact factors in grains."""
+    factors = exact_factors(job.v, book)
+    return sum(q(job, member) * f * G for member, f in zip(book.members, factors))
+
+
+def gap_sum(job, book):
+    return sum(2 * i * q(job, book.members[i]) for i in range(book.n))
+
+
+def verdict(job, book, C):
+    if C * high_sum(job, book) <= B(job):
+        return "below"
+    if C * low_sum(job, book) > B(job):
+        return "above"
+    return "close"
+
+
+def screening_level(job, book):
+    """The largest whole C from 0 to 4,000,000,000 with C * high_sum <= B."""
+    high = high_sum(job, book)
+    return MOST if high == 0 else min(MOST, B(job) // high)
+
+
+# ---- Working levels -----------------------------------------------------------------------------
+
+
+def weighed(v, book):
+    factors = reported_factors(v, book)
+    return sum(book.members[i].w * factors[i] for i in range(1, book.n))
+
+
+def Fm(v, book):
+    """The equilibrium factor in millionths, or None."""
+    divisor = weighed(0, book)
+    return None if divisor == 0 else 1_000_000 * weighed(v, book) // divisor
+
+
+def micro_working_levels(C, fm, W):
+    return None if fm is None else 10 * C * fm // (37_000 * W)
+
+
+# ---- Grounds for refusal, in checking order ------------------------------------------------------
+
+
+def check_rate(v):
+    refuse_if(v > 100_000, 3)
+
+
+def group_too_large(g):
+    return g.EF > 366 or g.ED > 100 or g.ET > 24 or g.IRA > 100
+
+
+def read_job(data):
+    """The job and C: checks 1 to 8."""
+    refuse_if(len(data) < 48, 1)
+    v, kind, medium, unit, zero, target, AF, value, uncertainty = struct.unpack_from("<IBBBBIIQQ", data)
+    child = Group(*struct.unpack_from("<4H", data, 32))
+    adult = Group(*struct.unpack_from("<4H", data, 40))
+    job = Job(v, kind, medium, unit, target, AF, value, uncertainty, child, adult)
+    refuse_if(kind > 1 or medium > 2 or unit > 2 or zero != 0, 2)
+    check_rate(v)
+    refuse_if(target > 1_000_000_000, 4)
+    refuse_if(AF > 1_000_000 or (medium == INDOOR_AIR and AF != 1_000_000), 5)
+    refuse_if(group_too_large(child) or group_too_large(adult) or Z((child, adult)) == 0, 6)
+    refuse_if(not is_reading(value) or not is_reading(uncertainty), 7)
+    return job, concentration(job)
+
+
+def read_book(data):
+    """The book: checks 9 to 18."""
+    refuse_if(len(data) < 8, 9)
+    n, m, W, header_zeros = struct.unpack_from("<BBH4s", data)
+    refuse_if(not 1 <= n <= 16 or m > 64, 10)
+    refuse_if(len(data) != 8 + 32 * n + 8 * m, 11)
+
+    raw_members = [struct.unpack_from("<Q5IB3s", data, 8 + 32 * i) for i in range(n)]
+    raw_feeds = [struct.unpack_from("<IBB2s", data, 8 + 32 * n + 8 * k) for k in range(m)]
+    members = [Member(*raw[:6]) for raw in raw_members]
+    first = [raw[6] for raw in raw_members]
+    feeds = {k + 1: Feed(raw[0], raw[1]) for k, raw in enumerate(raw_feeds)}  # feeds count from 1
+    next_ = {k + 1: raw[2] for k, raw in enumerate(raw_feeds)}
+    zeros = header_zeros + b"".join(raw[7] for raw in raw_members) + b"".join(raw[3] for raw in raw_feeds)
+
+    refuse_if(W == 0 or any(zeros), 12)
+    for i, member in enumerate(members):
+        longest = 10**15 if i == 0 else 60_000_000_000_000
+        refuse_if(not 1 <= member.T <= longest or max(member[1:]) > MOST, 13)
+    for feed in feeds.values():
+        refuse_if(not 1 <= feed.share <= 100_000 or feed.from_ >= n, 14)
+    refuse_if(any(number > m for number in first + list(next_.values())), 14)
+    chains = walk(first, next_)
+    refuse_if(chains[0] != [] or any(chain == [] for chain in chains[1:]), 16)
+    for i, chain in enumerate(chains):
+        refuse_if(any(feeds[number].from_ >= i for number in chain), 17)
+    for i in range(n):
+        refuse_if(sum(feed.share for feed in feeds.values() if feed.from_ == i) > 100_000, 18)
+    return Book(n, W, members, [[feeds[number] for number in chain] for chain in chains])
+
+
+def walk(first, next_):
+    """Each member's feed numbers, its first, then along next; refusal 15 if one comes up twice or never."""
+    seen = set()
+    chains = []
+    for number in first:
+        chain = []
+        while number != 0:
+            refuse_if(number in seen, 15)
+            seen.add(number)
+            chain.append(number)
+            number = next_[number]
+        chains.append(chain)
+    refuse_if(len(seen) < len(next_), 15)
+    return chains
+
+
+def factor_call(v, book_bytes, room):
+    """The n numbers that fill the lent list's first places, or the number of the refusal."""
+    try:
+        check_rate(v)
+        book = read_book(book_bytes)
+        refuse_if(room < book.n, 19)
+    except Refused as refusal:
+        return refusal.number
+    return reported_factors(v, book)
+
+
+# ---- The program `screen` -----------------------------------------------------------------------
+
+
+def read_all(job_bytes):
+    """Job, C and book: checks 1 to 18."""
+    job, C = read_job(job_bytes)
+    return job, C, read_book(job_bytes[48:])
+
+
+def answer(job_bytes):
+    """The text that `screen` writes."""
+    try:
+        job, C, book = read_all(job_bytes)
+    except Refused as refusal:
+        return f"refused {refusal.number}\n"
+    fm = Fm(job.v, book)
+    working = micro_working_levels(C, fm, book.W)
+    lines = [f"factor {i} {f}" for i, f in enumerate(reported_factors(job.v, book))]
+    lines.append(f"concentration {C}")
+    lines.append(f"verdict {verdict(job, book, C)}")
+    lines.append(f"level {screening_level(job, book)}")
+    lines.append(f"equilibrium {'none' if fm is None else fm}")
+    lines.append(f"working {'none' if working is None else working}")
+    return "".join(line + "\n" for line in lines)
+
+
+# ---- Demand 3, asserted on one job --------------------------------------------------------------
+
+
+def check_factors(v, book):
+    """Reported is never above exact and less than 2i grains below; member 0's two are equal."""
+    reported, exact, denominators = reported_factors(v, book), exact_factors(v, book), exact_denominators(v, book)
+    assert reported[0] == G and exact[0] == 1
+    for i in range(book.n):
+        assert (exact[i] * denominators[i]).denominator == 1, "the stated numerator is whole"
+        assert reported[i] <= exact[i] * G <= G
+        assert i == 0 or exact[i] * G < reported[i] + 2 * i
+
+
+def check_verdict(job, book, C):
+    """'Below' and 'above' are true of the exact quantity; 'close' only within the gap."""
+    low, high = C * low_sum(job, book), C * high_sum(job, book)
+    exact, gap, target = C * exact_sum(job, book), C * gap_sum(job, book), B(job)
+    said = verdict(job, book, C)
+    assert low <= exact <= high <= low + gap
+    assert max(high, target, low + gap) < 2**192
+    assert said != "below" or exact <= target
+    assert said != "above" or exact > target
+    assert said != "close" or abs(exact - target) < gap
+    # The other way about: outside the gap the verdict is the exact one.
+    assert said == "above" or exact - target < gap or gap == 0
+    assert said == "below" or target - exact < gap or gap == 0
+
+
+def check_level(job, book):
+    level = screening_level(job, book)
+    assert verdict(job, book, level) == "below"
+    assert level == MOST or verdict(job, book, level + 1) != "below"
+
+
+def check(job_bytes):
+    """Assert demand 3; a refused job promises nothing beyond its number."""
+    try:
+        job, C, book = read_all(job_bytes)
+    except Refused:
+        return
+    check_factors(job.v, book)
+    check_factors(0, book)
+    check_verdict(job, book, C)
+    check_level(job, book)
+
+
+def main():
+    job_bytes = sys.stdin.buffer.read()
+    if sys.argv[1:] == ["--check"]:
+        check(job_bytes)
+    elif sys.argv[1:]:
+        sys.exit("usage: reference.py [--check] < JOB")
+    sys.stdout.write(answer(job_bytes))
+
+
+if __name__ == "__main__":
+    main()

@@ -1,0 +1,129 @@
+"""Are the recorded cases sharp? Each wrong reading of document 01 below must change some recorded text.
+
+    test_cases.py CASES EXPECTED
+"""
+
+import pathlib
+import struct
+import sys
+import types
+
+SOURCE = pathlib.Path(__file__).with_name("reference.py").read_text(encoding="utf-8")
+
+# What is wrong, the reference's text, the text put in its place.
+MISTAKES = [
+    # The document's own slides towards the wrong side.
+    ("a reading rounded down", "return rounded_up(exact.numerator, exact.denominator)", "return int(exact)"),
+    ("Low against B for 'below'", "if C * high_sum(job, book) <= B(job)", "if C * low_sum(job, book) <= B(job)"),
+    ("shares into a member limited", "if feed.from_ == i) > 100_000", "if feed in [feeds[k] for k in chains[i]]) > 100_000"),
+    ("100 for W of every gas", "// (37_000 * W)", "// (37_000 * 1_000)"),
+    ("the cap at G left off High", "min(factors[i] + 2 * i, G)", "(factors[i] + 2 * i)"),
+    # Balance.
+    ("one rounding of the factor, not two", "F = inflow // 100_000", "F = Fraction(inflow, 100_000)"),
+    ("a factor rounded up", "factors.append(F * K // (K + v * book.members[i].T))",
+     "factors.append(-(-F * K // (K + v * book.members[i].T)))"),
+    ("each feed rounded by itself", "feed.share * factors[feed.from_] for feed in book.feeds_into[i])\n        F",
+     "feed.share * factors[feed.from_] // 100_000 * 100_000 for feed in book.feeds_into[i])\n        F"),
+    ("member 1 copied for the rest", "book.feeds_into[i])\n        F", "book.feeds_into[1])\n        F"),
+    # Reading.
+    ("added before rounding up", "C = indoors(value + uncertainty, job.medium",
+     "both = struct.unpack('<2d', struct.pack('<2Q', job.value, job.uncertainty))\n"
+     "    exact = sum(map(Fraction, both)) * PER_UNIT[job.unit]\n"
+     "    C = indoors(rounded_up(exact.numerator, exact.denominator), job.medium"),
+    ("soil gas rounded down", "rounded_up(total * AF, 1_000_000)", "(total * AF // 1_000_000)"),
+    ("groundwater rounded twice", "rounded_up(total * 434 * AF, 100_000_000)", "rounded_up(rounded_up(total * 434, 100) * AF, 1_000_000)"),
+    ("pCi/m3 as pCi/L", "1: 37, 2", "1: 37_000, 2"),
+    ("minus zero taken", "return sign == 0 and exponent", "return (sign == 0 or bits == 1 << 63) and exponent"),
+    ("one kind of NaN taken", "exponent != 0x7FF", "bits != 0x7FF << 52 and bits < (0x7FF << 52) + 2"),
+    ("the sum unchecked", " or value + uncertainty > MOST, 8", ", 8"),
+    ("C unchecked", "refuse_if(C > MOST, 8)", "refuse_if(False, 8)"),
+    # Verdict.
+    ("'above' at equality", "low_sum(job, book) > B", "low_sum(job, book) >= B"),
+    ("'below' not at equality", "high_sum(job, book) <= B", "high_sum(job, book) < B"),
+    ("i for 2i", "factors[i] + 2 * i, G", "factors[i] + i, G"),
+    ("risk coefficients for dose", "if job.kind == RISK:\n        inhalation", "if True:\n        inhalation"),
+    ("dose without the years", "job.target * Z((job.child, job.adult)) * 37", "job.target * 37"),
+    ("submersion left out", " + Y(groups) * submersion", ""),
+    ("the level from Low", "high = high_sum", "high = low_sum"),
+    ("the level without its limit", "min(MOST, B(job) // high)", "(B(job) // high)"),
+    # Working levels.
+    ("the gas weighed too", "factors[i] for i in range(1, book.n))\n\n\ndef Fm", "factors[i] for i in range(book.n))\n\n\ndef Fm"),
+    ("no divisor gives 0", "return None if divisor == 0", "return 0 if divisor == 0"),
+    # Grounds: limits moved by one, and order.
+    ("v 100,000 refused", "refuse_if(v > 100_000", "refuse_if(v >= 100_000"),
+    ("v 100,001 taken", "refuse_if(v > 100_000", "refuse_if(v > 100_001"),
+    ("target limit down", "target > 1_000_000_000", "target >= 1_000_000_000"),
+    ("target limit up", "target > 1_000_000_000", "target > 1_000_000_001"),
+    ("AF limit down", "AF > 1_000_000 or", "(medium and AF >= 1_000_000) or"),
+    ("AF of indoor air free", "(medium == INDOOR_AIR and AF != 1_000_000)", "False"),
+    ("EF limit", "g.EF > 366", "g.EF > 365"),
+    ("ED limit", "g.ED > 100", "g.ED > 99"),
+    ("ET limit", "g.ET > 24", "g.ET > 23"),
+    ("IRA limit", "g.IRA > 100", "g.IRA > 99"),
+    ("Z of 0 taken", " or Z((child, adult)) == 0", ""),
+    ("the limit 4,000,000,000 down", "MOST = 4_000_000_000", "MOST = 3_999_999_999"),
+    ("the limit 4,000,000,000 up", "MOST = 4_000_000_000", "MOST = 4_000_000_001"),
+    ("16 members refused", "1 <= n <= 16", "1 <= n <= 15"),
+    ("64 feeds refused", "m > 64", "m > 63"),
+    ("a longer book taken", "len(data) != 8 + 32 * n + 8 * m", "len(data) < 8 + 32 * n + 8 * m"),
+    ("W of 0 unseen", "refuse_if(W == 0 or any(zeros), 12)", "refuse_if(any(zeros), 12)"),
+    ("the header's zeros unseen", "zeros = header_zeros + ", "zeros = "),
+    ("the members' zeros unseen", ' + b"".join(raw[7] for raw in raw_members)', ""),
+    ("the feeds' zeros unseen", ' + b"".join(raw[3] for raw in raw_feeds)', ""),
+    ("T of 10^15 refused", "longest = 10**15 if", "longest = 10**15 - 1 if"),
+    ("T over 10^15 taken", "longest = 10**15 if", "longest = 10**15 + 1 if"),
+    ("a later T of the limit refused", "else 60_000_000_000_000", "else 59_999_999_999_999"),
+    ("a later T over the limit taken", "else 60_000_000_000_000", "else 60_000_000_000_001"),
+    ("T of 0 taken", "not 1 <= member.T", "not 0 <= member.T"),
+    ("w unlimited", "max(member[1:]) > MOST", "max(member[1:5]) > MOST"),
+    ("share 100,000 refused", "1 <= feed.share <= 100_000", "1 <= feed.share <= 99_999"),
+    ("share 0 taken", "not 1 <= feed.share", "not 0 <= feed.share"),
+    ("a feed never used taken", "refuse_if(len(seen) < len(next_), 15)", "refuse_if(False, 15)"),
+    ("the parent's feed taken", "chains[0] != [] or any", "any"),
+    ("an unfed member taken", "refuse_if(chains[0] != [] or any(chain == [] for chain in chains[1:]), 16)", "refuse_if(chains[0] != [], 16)"),
+    ("a member that feeds itself taken", "feeds[number].from_ >= i", "feeds[number].from_ > i"),
+    ("shares out of 100,001 taken", "if feed.from_ == i) > 100_000", "if feed.from_ == i) > 100_001"),
+    ("shares out of 100,000 refused", "if feed.from_ == i) > 100_000", "if feed.from_ == i) > 99_999"),
+]
+
+
+def read_cases(path):
+    data = pathlib.Path(path).read_bytes()
+    jobs, at = [], 0
+    while at < len(data):
+        (length,) = struct.unpack_from("<H", data, at)
+        jobs.append(data[at + 2 : at + 2 + length])
+        at += 2 + length
+    assert at == len(data)
+    return jobs
+
+
+def answers(source, jobs):
+    """The texts of a reference with the given source; a crash counts as a text of its own."""
+    module = types.ModuleType("reference_under_test")
+    exec(compile(source, "reference_under_test", "exec"), module.__dict__)
+    for data in jobs:
+        try:
+            yield module.answer(data)
+        except Exception as error:
+            yield repr(error)
+
+
+def main():
+    jobs = read_cases(sys.argv[1])
+    expected = pathlib.Path(sys.argv[2]).read_text(encoding="ascii")
+    right = list(answers(SOURCE, jobs))
+    assert "".join(right) == expected, "the recorded texts are the reference's"
+    missed = []
+    for what, old, new in MISTAKES:
+        assert SOURCE.count(old) == 1, (what, SOURCE.count(old))
+        changed = sum(a != b for a, b in zip(right, answers(SOURCE.replace(old, new), jobs)))
+        print(f"{changed:5d} texts change: {what}")
+        if changed == 0:
+            missed.append(what)
+    assert not missed, missed
+    print(f"{len(MISTAKES)} mistakes, each seen by the cases")
+
+
+if __name__ == "__main__":
+    main()

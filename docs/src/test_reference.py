@@ -1,0 +1,145 @@
+"""Every row of document 01, and its worked output, against the reference."""
+
+import math
+import struct
+
+import reference as ref
+from packing import bits, pack_book, pack_feed, pack_job, pack_member
+
+T1 = 2_495_329_851_600  # the document's T'
+G = 1_099_511_627_776
+
+
+def one_feed_book(T=T1, share=100_000, h=0):
+    return pack_book([pack_member(1), pack_member(T, inhalation_risk=h, first=1)], [pack_feed(share, 0)])
+
+
+def parent_book(h=0, dose=0):
+    return pack_book([pack_member(1, inhalation_risk=h, inhalation_dose=dose)], [])
+
+
+def field(text, name):
+    """The value of one line of the program's text."""
+    return dict(line.split(" ", 1) for line in text.splitlines())[name]
+
+
+def screened(book, C, target, v=0, kind=0):
+    """The text for a residential job with the given C: C / 1,000 Bq/m3 must be exact as an f64."""
+    assert (C / 1000) * 1000 == C
+    job = pack_job(v=v, kind=kind, unit=2, target=target, value=bits(C / 1000)) + book
+    ref.check(job)
+    text = ref.answer(job)
+    assert field(text, "concentration") == str(C)
+    return text
+
+
+def test_constants():
+    assert ref.G == G == 2**40
+    assert ref.K == 693_147_181 * 36 * 10**13 // 10**9
+
+
+def test_balance():
+    book = one_feed_book()
+    assert ref.factor_call(0, book, 2) == [G, G]
+    assert ref.factor_call(100, book, 2) == [G, 549_755_813_888]
+    assert ref.factor_call(200, book, 2) == [G, 366_503_875_925]
+    assert ref.factor_call(0, one_feed_book(share=33_333), 2) == [G, 366_500_210_886]
+    branched = pack_book(
+        [pack_member(1)] + [pack_member(T1, first=k) for k in (1, 2, 3)],
+        [pack_feed(50_000, 0), pack_feed(50_000, 0), pack_feed(100_000, 1, 4), pack_feed(100_000, 2)],
+    )
+    assert ref.factor_call(0, branched, 4) == [G, G // 2, G // 2, G]
+    assert ref.factor_call(100, branched, 4) == [G, G // 4, G // 4, G // 4]
+
+
+def test_exposure():
+    assert (ref.X(ref.RESIDENTIAL), ref.Y(ref.RESIDENTIAL), ref.Z(ref.RESIDENTIAL)) == (3_864_000, 218_400, 26)
+    assert (ref.X(ref.WORKER), ref.Y(ref.WORKER), ref.Z(ref.WORKER)) == (3_000_000, 50_000, 25)
+
+
+def test_reading():
+    assert ref.converted(bits(4.0), 0) == 148_000
+    assert ref.converted(bits(0.5), 1) == 19
+    assert ref.indoors(ref.converted(bits(100.0), 0), ref.GROUNDWATER, 1_000) == 16_058
+    assert ref.indoors(148_000, ref.SOIL_GAS, 30_000) == 4_440
+    assert ref.converted(1, 2) == 1  # the smallest subnormal is above 0
+    assert ref.converted(0, 2) == 0
+
+
+def test_working():
+    assert ref.micro_working_levels(148_000, 400_000, 1_000) == 16_000
+    assert ref.micro_working_levels(148_000, None, 1_000) is None
+
+
+def test_verdict():
+    parent = parent_book(h=1_000)
+    text = screened(parent, 37_000, 1_610)
+    assert (field(text, "verdict"), field(text, "level")) == ("below", "37000")
+    assert field(screened(parent, 37_000, 1_609), "verdict") == "above"
+    chain = one_feed_book(h=1_000)
+    for target, expected in ((1_610, "close"), (1_611, "below"), (1_609, "above")):
+        assert field(screened(chain, 111_000, target, v=200), "verdict") == expected
+    dose = parent_book(dose=1_000)
+    assert field(screened(dose, 370_000, 6_193, kind=1), "verdict") == "below"
+    assert field(screened(dose, 370_000, 6_192, kind=1), "verdict") == "above"
+
+
+def test_limits():
+    book = one_feed_book()
+    assert isinstance(ref.factor_call(100_000, book, 2), list)
+    assert ref.factor_call(100_001, book, 2) == 3
+    assert ref.answer(pack_job(v=100_001) + book) == "refused 3\n"
+    assert ref.answer(pack_job(v=100_000) + book).startswith("factor 0 ")
+
+    def two_out(second):
+        members = [pack_member(1), pack_member(T1, first=1), pack_member(T1, first=2)]
+        return pack_book(members, [pack_feed(60_000, 0), pack_feed(second, 0)])
+
+    assert isinstance(ref.factor_call(0, two_out(40_000), 3), list)
+    assert ref.factor_call(0, two_out(40_001), 3) == 18
+
+
+def test_room():
+    book = one_feed_book()
+    assert ref.factor_call(0, book, 1) == 19
+    assert len(ref.factor_call(0, book, 99)) == 2
+    assert ref.factor_call(0, b"", 0) == 9
+
+
+def test_worked_output():
+    job = pack_job(unit=0, target=1_610, value=bits(1.0)) + parent_book(h=1_000)
+    assert ref.answer(job) == (
+        "factor 0 1099511627776\n"
+        "concentration 37000\n"
+        "verdict below\n"
+        "level 37000\n"
+        "equilibrium none\n"
+        "working none\n"
+    )
+    ref.check(job)
+
+
+def test_f64_bits():
+    """The exact value by hand, from sign, exponent and fraction, agrees with the library's."""
+    for number in (5e-324, 2.2250738585072014e-308, 0.1, 1.0, 4.0, 108_108.1, math.nextafter(1.0, 2.0), 1e300):
+        raw = bits(number)
+        exponent, fraction = raw >> 52, raw & (1 << 52) - 1
+        whole = fraction if exponent == 0 else fraction + (1 << 52)
+        power = max(exponent, 1) - 1075
+        exact = ref.Fraction(whole) * ref.Fraction(2) ** power
+        assert ref.converted(raw, 0) == math.ceil(exact * 37_000)
+    for text in ("nan", "-nan", "inf", "-inf", "-0.0", "-1"):
+        raw = bits(math.copysign(float(text.lstrip("-")), -1 if text.startswith("-") else 1))
+        assert not ref.is_reading(raw)
+    assert struct.calcsize("<IBBBBIIQQ") + 16 == 48
+
+
+def main():
+    tests = [name for name in globals() if name.startswith("test_")]
+    for name in tests:
+        globals()[name]()
+    print(f"{len(tests)} tests passed")
+
+
+if __name__ == "__main__":
+    main()
