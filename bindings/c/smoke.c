@@ -1,0 +1,123 @@
+/* Calls both functions on rows of document 01 and on refusals, and says which answer is wrong, if one is. */
+#include "jelmorand.h"
+
+#include <stdio.h>
+#include <string.h>
+
+#define PARENT_GRAINS UINT64_C(1099511627776)
+#define MARK UINT64_C(7)
+
+static int failures;
+
+static void expect(int holds, const char *what)
+{
+    if (!holds) {
+        printf("wrong: %s\n", what);
+        failures++;
+    }
+}
+
+static uint8_t *put(uint8_t *at, uint64_t number, int bytes)
+{
+    for (int i = 0; i < bytes; i++)
+        *at++ = (uint8_t)(number >> (8 * i));
+    return at;
+}
+
+static uint8_t *put_member(uint8_t *at, uint64_t half_life, uint32_t inhalation_risk, uint8_t first)
+{
+    at = put(at, half_life, 8);
+    at = put(at, inhalation_risk, 4);
+    at = put(at, 0, 8);
+    at = put(at, 0, 8);
+    return put(at, first, 4);
+}
+
+/* A working level divisor of 1,000, and no feeds: the parent alone. */
+static size_t parent_alone(uint8_t *book, uint32_t inhalation_risk)
+{
+    uint8_t *end = put(put(put(put(book, 1, 1), 0, 1), 1000, 2), 0, 4);
+    return (size_t)(put_member(end, 1, inhalation_risk, 0) - book);
+}
+
+/* A parent, and a member that one feed of 100,000 from it feeds. */
+static size_t one_feed(uint8_t *book, uint32_t inhalation_risk)
+{
+    uint8_t *end = put(put(put(put(book, 2, 1), 1, 1), 1000, 2), 0, 4);
+    end = put_member(end, 1, 0, 0);
+    end = put_member(end, UINT64_C(2495329851600), inhalation_risk, 1);
+    end = put(end, 100000, 4);
+    return (size_t)(put(end, 0, 4) - book);
+}
+
+/* The job's 48 bytes: risk, indoor air, a value in pCi/L without uncertainty, residential exposure. */
+static uint8_t *put_job(uint8_t *at, uint32_t v, uint32_t target, double value)
+{
+    static const uint16_t residential[] = {350, 6, 24, 10, 350, 20, 24, 20};
+    uint64_t bits;
+    memcpy(&bits, &value, sizeof bits);
+    at = put(put(put(at, v, 4), 0, 4), target, 4);
+    at = put(put(put(at, 1000000, 4), bits, 8), 0, 8);
+    for (int i = 0; i < 8; i++)
+        at = put(at, residential[i], 2);
+    return at;
+}
+
+static void check_factors(void)
+{
+    static const uint32_t rates[] = {0, 100, 200};
+    static const uint64_t factors[] = {PARENT_GRAINS, UINT64_C(549755813888), UINT64_C(366503875925)};
+    uint8_t book[128];
+    size_t length = one_feed(book, 0);
+    for (int i = 0; i < 3; i++) {
+        uint64_t out[3] = {MARK, MARK, MARK};
+        expect(jelmorand_factors(rates[i], book, length, out, 3) == 2, "the count of members");
+        expect(out[0] == PARENT_GRAINS && out[1] == factors[i], "a factor of the first row");
+        expect(out[2] == MARK, "the place past the factors");
+    }
+    uint64_t out[2] = {MARK, MARK};
+    expect(jelmorand_factors(100001, book, length, out, 2) == JELMORAND_REFUSED + JELMORAND_RATE_TOO_HIGH, "refusal 3");
+    expect(jelmorand_factors(0, book, 0, out, 2) == JELMORAND_REFUSED + JELMORAND_BOOK_TOO_SHORT, "refusal 9");
+    expect(jelmorand_factors(0, book, length, out, 1) == JELMORAND_REFUSED + JELMORAND_LIST_TOO_SHORT, "refusal 19");
+    expect(jelmorand_factors(0, book, length, out, 0) == JELMORAND_REFUSED + JELMORAND_LIST_TOO_SHORT, "refusal 19 of no list");
+    expect(out[0] == MARK && out[1] == MARK, "the list after a refusal");
+}
+
+static void check_report(void)
+{
+    static const char text[] = "factor 0 1099511627776\nconcentration 37000\nverdict below\nlevel 37000\n"
+                               "equilibrium none\nworking none\n";
+    const size_t length = sizeof text - 1;
+    uint8_t job[256];
+    uint8_t out[JELMORAND_REPORT_ROOM];
+    uint8_t *book = put_job(job, 0, 1610, 1.0);
+    size_t job_length = 48 + parent_alone(book, 1000);
+    memset(out, MARK, sizeof out);
+    expect(jelmorand_report(job, job_length, out, length - 1) == 0 && out[0] == MARK, "a room that is too short");
+    expect(jelmorand_report(job, job_length, out, sizeof out) == length, "the report's length");
+    expect(memcmp(out, text, length) == 0, "the report's text");
+    expect(out[length] == MARK, "the byte past the report");
+    expect(jelmorand_report(job, 47, out, sizeof out) == 10 && memcmp(out, "refused 1\n", 10) == 0, "refusal 1");
+}
+
+/* Document 01's row at 3.0 pCi/L, that is 111,000 mBq/m3, where one billionth of the target makes each verdict. */
+static void check_verdicts(void)
+{
+    static const char *const verdicts[] = {"verdict above\n", "verdict close\n", "verdict below\n"};
+    for (uint32_t i = 0; i < 3; i++) {
+        uint8_t job[256];
+        char out[JELMORAND_REPORT_ROOM + 1] = {0};
+        uint8_t *book = put_job(job, 200, 1609 + i, 3.0);
+        jelmorand_report(job, 48 + one_feed(book, 1000), (uint8_t *)out, JELMORAND_REPORT_ROOM);
+        expect(strstr(out, "concentration 111000\n") != NULL && strstr(out, verdicts[i]) != NULL, verdicts[i]);
+    }
+}
+
+int main(void)
+{
+    check_factors();
+    check_report();
+    check_verdicts();
+    puts(failures == 0 ? "smoke: all answers right" : "smoke: failed");
+    return failures != 0;
+}

@@ -1,0 +1,3 @@
+pub mod CodeRanges
+pub mod Copied
+pub mod NeverEmpty

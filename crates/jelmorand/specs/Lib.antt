@@ -1,0 +1,2 @@
+pub mod FactorCode
+pub mod ReportBytes
