@@ -49,6 +49,17 @@ MISTAKES = [
     # Working levels.
     ("the gas weighed too", "factors[i] for i in range(1, book.n))\n\n\ndef Fm", "factors[i] for i in range(book.n))\n\n\ndef Fm"),
     ("no divisor gives 0", "return None if divisor == 0", "return 0 if divisor == 0"),
+    # Constants moved by one.
+    ("434 as 433", "total * 434 * AF", "total * 433 * AF"),
+    ("K one less", "K = 249_532_985_160_000", "K = 249_532_985_159_999"),
+    ("G halved", "G = 2**40", "G = 2**39"),
+    ("365 as 366", "return 365 * X", "return 366 * X"),
+    ("8,760 as 8,761 for risk", "job.target * 37 * 8_760", "job.target * 37 * 8_761"),
+    ("8,760 as 8,761 for dose", "adult)) * 37 * 8_760", "adult)) * 37 * 8_761"),
+    ("a pCi/L as 36,999", "{0: 37_000,", "{0: 36_999,"),
+    ("a Bq/m3 as 1,001", "2: 1_000}", "2: 1_001}"),
+    ("Fm in other parts", "else 1_000_000 * weighed", "else 1_000_001 * weighed"),
+    ("10 as 11 in the working level", "else 10 * C * fm", "else 11 * C * fm"),
     # Grounds: limits moved by one, and order.
     ("v 100,000 refused", "refuse_if(v > 100_000", "refuse_if(v >= 100_000"),
     ("v 100,001 taken", "refuse_if(v > 100_000", "refuse_if(v > 100_001"),

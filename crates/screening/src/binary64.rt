@@ -12,27 +12,27 @@ const HIDDEN: u64 = 0x0010_0000_0000_0000;
 const INFINITY: u64 = 0x7FF0_0000_0000_0000;
 
 // The patterns from infinity's on are infinite, not a number, or have the sign bit set.
-pub fn bits_unusable(bits: u64) -> bool
+pub(crate) fn bits_unusable(bits: u64) -> bool
     ensures { λ r. ⌜ r ≡ unusable (ofBits binary64 bits) ⌝ }
 {
     bits >= INFINITY
 }
 
-pub fn float(bits: u64) -> f64
+pub(crate) fn float(bits: u64) -> f64
     requires { ⌜ unusable (ofBits binary64 bits) ≡ false ⌝ }
     ensures { λ r. ⌜ r ≡ ofBits binary64 bits ⌝ }
 {
     f64::from_bits(bits)
 }
 
-pub fn exponent(bits: u64) -> u64
+pub(crate) fn exponent(bits: u64) -> u64
     ensures { λ r. ⌜ r ≡ bits / 2 ^ 52 ⌝ }
 {
     bits / HIDDEN
 }
 
 // The digits, with the leading one of a normal number.
-pub fn significand(bits: u64) -> u64
+pub(crate) fn significand(bits: u64) -> u64
     ensures { λ r. ⌜ (r ≡ significandOf bits) × (r < 2 ^ 53) ⌝ }
 {
     if bits < HIDDEN {

@@ -54,7 +54,7 @@ fn convert_bits(bits: u64, multiplier: u64) -> Whole
     cap(product(bits, multiplier))
 }
 
-pub fn cap(number: u64) -> Whole
+pub(crate) fn cap(number: u64) -> Whole
     ensures { λ r. ⌜ r ≡ capped number ⌝ }
 {
     if number > MAX_CONCENTRATION {

@@ -133,7 +133,7 @@ fn group_air(group: Group) -> u64
 }
 
 // X, Y and Z sum over both groups.
-pub fn x(exposure: Exposure) -> u64
+pub(crate) fn x(exposure: Exposure) -> u64
     requires { ⌜ exposureOutOfRange exposure ≡ false ⌝ }
     ensures value { λ r. ⌜ r ≡ X exposure ⌝ }
     ensures range { λ r. ⌜ r ≤ 175680000 ⌝ }
@@ -141,7 +141,7 @@ pub fn x(exposure: Exposure) -> u64
     group_air(exposure.child) + group_air(exposure.adult)
 }
 
-pub fn y(exposure: Exposure) -> u64
+pub(crate) fn y(exposure: Exposure) -> u64
     requires { ⌜ exposureOutOfRange exposure ≡ false ⌝ }
     ensures value { λ r. ⌜ r ≡ Y exposure ⌝ }
     ensures range { λ r. ⌜ r ≤ 1756800 ⌝ }
@@ -149,7 +149,7 @@ pub fn y(exposure: Exposure) -> u64
     group_hours(exposure.child) + group_hours(exposure.adult)
 }
 
-pub fn z(exposure: Exposure) -> u64
+pub(crate) fn z(exposure: Exposure) -> u64
     requires { ⌜ exposureOutOfRange exposure ≡ false ⌝ }
     ensures value { λ r. ⌜ r ≡ Z exposure ⌝ }
     ensures range { λ r. ⌜ (1 ≤ r) × (r ≤ 200) ⌝ }

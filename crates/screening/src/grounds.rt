@@ -3,7 +3,7 @@ ghost use mathlib.Core.Path.{_≡_};
 ghost use Rattle.screening.specs.Refusals.{jobRefusalNumber};
 use crate::job::JobRefusal;
 
-pub fn refusal_number(refusal: JobRefusal) -> u64
+pub(crate) fn refusal_number(refusal: JobRefusal) -> u64
     ensures { λ r. ⌜ r ≡ jobRefusalNumber refusal ⌝ }
 {
     match refusal {

@@ -14,7 +14,7 @@ ghost use Rattle.screening.specs.Reading.{amountOf, mediumOf, throughMed
 ghost use Rattle.screening.specs.Private.Parts.{numberOf, sumOf, limited, intakeOf};
 
 // Units 0, 1, 2; any other code is taken as 2, and the job reader refuses it.
-pub fn amount(unit: u8, x: f64) -> Amount
+pub(crate) fn amount(unit: u8, x: f64) -> Amount
     ensures { λ r. ⌜ r ≡ amountOf unit x ⌝ }
 {
     match unit {
@@ -25,7 +25,7 @@ pub fn amount(unit: u8, x: f64) -> Amount
 }
 
 // Media 0, 1, 2; any other code is taken as 2, and the job reader refuses it.
-pub fn medium(code: u8) -> Medium
+pub(crate) fn medium(code: u8) -> Medium
     ensures { λ r. ⌜ r ≡ mediumOf code ⌝ }
 {
     match code {
@@ -35,7 +35,7 @@ pub fn medium(code: u8) -> Medium
     }
 }
 
-pub fn intake(unit: u8, medium: Medium, af: u32, reading: Reading) -> Intake
+pub(crate) fn intake(unit: u8, medium: Medium, af: u32, reading: Reading) -> Intake
     requires { ⌜ af ≤ 1000000 ⌝ }
     ensures { λ r. ⌜ r ≡ intakeAnswer unit medium af reading ⌝ }
 {

@@ -18,7 +18,7 @@ pub struct Text {
 }
 
 // One line for each of the first `count` factors: at most 16 of 49 bytes.
-pub fn put_factor_lines(text: Text, factors: [u64; 16], count: usize) -> Text
+pub(crate) fn put_factor_lines(text: Text, factors: [u64; 16], count: usize) -> Text
     requires { ⌜ text .len + 784 ≤ 1024 ⌝ }
     ensures { λ r. ⌜ Grown text (factorLines 0 (take count factors)) 784 r ⌝ }
 {
@@ -42,7 +42,7 @@ fn put_factor_line(text: Text, member: usize, factor: u64) -> Text
 }
 
 // Lines of at most 35, 14 and 27 bytes, and the working levels.
-pub fn put_figures(text: Text, figures: Figures) -> Text
+pub(crate) fn put_figures(text: Text, figures: Figures) -> Text
     requires { ⌜ text .len + 138 ≤ 1024 ⌝ }
     ensures { λ r. ⌜ Grown text (figureLines figures) 138 r ⌝ }
 {

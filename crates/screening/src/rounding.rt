@@ -3,14 +3,14 @@ ghost use mathlib.Core.Path.{_≡_};
 ghost use Prim.Native.Nat.{_+_, _^_, _<_, _≤_};
 ghost use Rattle.screening.specs.Reading.{roundedUp};
 
-pub fn rounded_up(a: u64, b: u64) -> u64
+pub(crate) fn rounded_up(a: u64, b: u64) -> u64
     requires { ⌜ (0 < b) × (a + b ≤ 2 ^ 64) ⌝ }
     ensures { λ r. ⌜ r ≡ roundedUp a b ⌝ }
 {
     (a + (b - 1)) / b
 }
 
-pub fn power_of_two(places: u64) -> u64
+pub(crate) fn power_of_two(places: u64) -> u64
     requires { ⌜ places < 64 ⌝ }
     ensures { λ r. ⌜ r ≡ 2 ^ places ⌝ }
 {

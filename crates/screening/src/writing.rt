@@ -6,7 +6,7 @@ ghost use Rattle.screening.specs.Report.{decimal, lineFeed};
 ghost use Rattle.screening.specs.Private.Writing.{Grown};
 use crate::report::Text;
 
-pub fn put(text: Text, word: &[u8]) -> Text
+pub(crate) fn put(text: Text, word: &[u8]) -> Text
     requires { ⌜ text .len + length (now word) ≤ 1024 ⌝ }
     ensures { λ r. ⌜ Grown text (now (word .entry)) (length (now (word .entry))) r ⌝ }
 {
@@ -23,7 +23,7 @@ pub fn put(text: Text, word: &[u8]) -> Text
     }
 }
 
-pub fn put_number(text: Text, n: u64) -> Text
+pub(crate) fn put_number(text: Text, n: u64) -> Text
     requires { ⌜ text .len + 20 ≤ 1024 ⌝ }
     ensures { λ r. ⌜ Grown text (decimal n) 20 r ⌝ }
 {
@@ -33,7 +33,7 @@ pub fn put_number(text: Text, n: u64) -> Text
 }
 
 // A word, a number, a line feed.
-pub fn put_line(text: Text, word: &[u8], n: u64) -> Text
+pub(crate) fn put_line(text: Text, word: &[u8], n: u64) -> Text
     requires { ⌜ text .len + (length (now word) + 21) ≤ 1024 ⌝ }
     ensures { λ r. ⌜ Grown text (now (word .entry) ++ decimal n ++ lineFeed) (length (now (word .entry)) + 21) r ⌝ }
 {
