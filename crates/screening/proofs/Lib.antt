@@ -9,7 +9,6 @@ pub mod Codes
 pub mod PartsJoined
 -- The exposure.
 pub mod WithinLimits
-pub mod ExposureRange
 -- The verdict, the level and the equilibrium factor against the exact quantity: demand 3.
 pub mod Sums
 pub mod Outcomes
@@ -21,7 +20,6 @@ pub mod Falling
 pub mod Level
 pub mod Demanded
 -- The sums in limbs.
-pub mod Ranges
 pub mod Held
 pub mod Summing
 pub mod TabledSums

@@ -21,12 +21,11 @@ use Rattle.screening.specs.declared.job.Answer.{Answer}
 use Rattle.screening.specs.declared.job.Figures.{Figures}
 use Rattle.screening.specs.declared.job.Outcome.{Outcome}
 use Rattle.screening.specs.declared.verdict.Kind.{Kind}
-use Rattle.screening.proofs.ExposureRange.{exposure-in-range}
 use Rattle.screening.proofs.FactorArrays.{array-at, factor-capped, factor-falls}
 use Rattle.screening.proofs.JobPasses.{concentration-within}
-use Rattle.screening.proofs.Ranges.{inhalation-listed, submersion-listed}
 use Rattle.screening.proofs.SameFigures.{alpha-same, figures-same}
-use Rattle.screening.proofs.TabledBook.{table-coefficient}
+use Rattle.screening.proofs.TabledBook.{table-coefficient, inhalation-listed, submersion-listed}
+use Rattle.screening.proofs.WithinLimits.{within, years-within}
 
 same-bound : (k : Kind) (e : Exposure) (t : ℕ) → tabledBound k (Z e) t ≡ bound k e t
 same-bound Kind.Risk e t = refl
@@ -163,7 +162,7 @@ module _ {job book : List ℕ} {k : Kind} {x y z t C n W : ℕ} {coefficients li
       record {
         some-member = rw (read .count) (ranges .members-count .from);
         members = rw (read .count) (ranges .members-count .to);
-        years = rw (read .years) (exposure-in-range (exposureOf job) (passes .fields .exposure) .years);
+        years = rw (read .years) (years-within (exposureOf job) (within (exposureOf job) (passes .fields .exposure)) .1);
         target-within = rw (read .target-is) (passes .fields .target);
         concentration = rw (read .concentration) (concentration-within job (passes .within));
         some-divisor = rw (read .divisor) (ranges .divisor);

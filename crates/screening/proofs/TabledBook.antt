@@ -12,7 +12,17 @@ use Rattle.balance.specs.Table.{memberPlaces, tableOf}
 use Rattle.balance.specs.Promises.{Accepted}
 use Rattle.balance.proofs.Filled.{filled-at}
 use Rattle.balance.proofs.Ranges.{accepted-ranges}
+use Rattle.screening.specs.Verdict.{inhalation, submersion}
 use Rattle.screening.specs.Private.Tabled.{tabled}
+use Rattle.screening.specs.declared.verdict.Kind.{Kind}
+
+pub inhalation-listed : (kind : Kind) → inhalation kind < 5
+inhalation-listed Kind.Risk = omega arith
+inhalation-listed Kind.Dose = omega arith
+
+pub submersion-listed : (kind : Kind) → submersion kind < 5
+submersion-listed Kind.Risk = omega arith
+submersion-listed Kind.Dose = omega arith
 
 module _ (book : List ℕ) (accepted : Accepted book) where
   all-members : memberPlaces book ≡ members book

@@ -1,19 +1,16 @@
 -- What the limits on an exposure say of its numbers: a disjunction is false where each of its tests is, and then each
 -- number is at most its limit, so that the products are too.
 use Prim.Native.Nat.{_*_, _≤_}
-use mathlib.Core.Path.{_≡_, refl}
-use mathlib.Core.Bool.{Bool, true, false, _||_}
+use mathlib.Core.Path.{_≡_}
+use mathlib.Core.Bool.{false, _||_}
 use native.Mathlib.Nat.{mul-le-mul}
 use native.Mathlib.Omega.{arith}
 use borrow.Author.Tests.{ltb-false, eqb-false}
 use lib.Dec.{ltb, eqb}
+use Rattle.balance.proofs.NoneMet.{neither}
 use Rattle.screening.specs.declared.exposure.Group.{Group}
 use Rattle.screening.specs.declared.exposure.Exposure.{Exposure}
 use Rattle.screening.specs.Exposure.{Z, groupOutOfRange, exposureOutOfRange}
-
-or-false : (a b : Bool) → (a || b) ≡ false → (a ≡ false) × (b ≡ false)
-or-false true b e = let never : _≡_ {A = Bool} true false = e in (never, cc)
-or-false false b e = (refl, e)
 
 pub record GroupWithin (g : Group) : Type 0 where
   pub days : g .days ≤ 366
@@ -23,9 +20,9 @@ pub record GroupWithin (g : Group) : Type 0 where
 
 pub group-within : (g : Group) → groupOutOfRange g ≡ false → GroupWithin g
 group-within g e =
-    let three = or-false (ltb 366 (g .days) || ltb 100 (g .years) || ltb 24 (g .hours)) (ltb 100 (g .breathing)) e in
-    let two = or-false (ltb 366 (g .days) || ltb 100 (g .years)) (ltb 24 (g .hours)) (three .0) in
-    let one = or-false (ltb 366 (g .days)) (ltb 100 (g .years)) (two .0) in
+    let three = neither (ltb 366 (g .days) || ltb 100 (g .years) || ltb 24 (g .hours)) (ltb 100 (g .breathing)) e in
+    let two = neither (ltb 366 (g .days) || ltb 100 (g .years)) (ltb 24 (g .hours)) (three .0) in
+    let one = neither (ltb 366 (g .days)) (ltb 100 (g .years)) (two .0) in
     record {
       days = ltb-false 366 (g .days) (one .0);
       years = ltb-false 100 (g .years) (one .1);
@@ -47,8 +44,8 @@ pub record Within (e : Exposure) : Type 0 where
 pub within : (e : Exposure) → exposureOutOfRange e ≡ false → Within e
 unfolding exposureOutOfRange
 within e h =
-    let groups = or-false (groupOutOfRange (e .child) || groupOutOfRange (e .adult)) (eqb (Z e) 0) h in
-    let each = or-false (groupOutOfRange (e .child)) (groupOutOfRange (e .adult)) (groups .0) in
+    let groups = neither (groupOutOfRange (e .child) || groupOutOfRange (e .adult)) (eqb (Z e) 0) h in
+    let each = neither (groupOutOfRange (e .child)) (groupOutOfRange (e .adult)) (groups .0) in
     record { child = each .0; adult = each .1; some-years = eqb-false (Z e) 0 (groups .1) }
 
 pub years-within : (e : Exposure) → Within e → (1 ≤ Z e) × (Z e ≤ 200)
