@@ -33,3 +33,4 @@ pub mod SameFigures
 pub mod ScreenedFigures
 pub mod JobAnswers
 pub mod HeldText
+pub mod LongInput
