@@ -1,11 +1,11 @@
-"""Both edges of grounds 1 to 8 of a whole job, and of C: the last accepted value and the first refused one.
+"""Document 01's rows on whole jobs; and both edges of grounds 1 to 8 and of C: the last accepted value and the first refused one.
 
-The answers are typed here from document 01: the number of a refusal, or the concentration of an accepted job.
+The answers are typed here from document 01: a verdict or a level, the number of a refusal, or the concentration of an accepted job.
 """
 
 import math
 
-from packing import bits, pack_book, pack_job, pack_member
+from packing import bits, pack_book, pack_feed, pack_job, pack_member
 
 BOOK = pack_book([pack_member(1)], [])
 MOST = 4_000_000_000
@@ -17,6 +17,19 @@ NOT_A_NUMBER = [INFINITY + 1, INFINITY + (1 << 51), INFINITY + (1 << 52) - 1]
 
 def job(**fields):
     return pack_job(**fields) + BOOK
+
+
+def rows():
+    """The rows on a verdict or a level: residential, indoor air in pCi/L."""
+    risk = pack_book([pack_member(1, inhalation_risk=1_000)], [])
+    dose = pack_book([pack_member(1, inhalation_dose=1_000)], [])
+    chain = pack_book([pack_member(1), pack_member(2_495_329_851_600, inhalation_risk=1_000, first=1)], [pack_feed(100_000, 0)])
+    for target, line in ((1_610, 'verdict below'), (1_609, 'verdict above'), (1_610, 'level 37000')):
+        yield pack_job(unit=0, value=bits(1.0), target=target) + risk, line
+    for target, line in ((1_610, 'verdict close'), (1_611, 'verdict below'), (1_609, 'verdict above')):
+        yield pack_job(v=200, unit=0, value=bits(3.0), target=target) + chain, line
+    for target, line in ((6_193, 'verdict below'), (6_192, 'verdict above')):
+        yield pack_job(kind=1, unit=0, value=bits(10.0), target=target) + dose, line
 
 
 def codes():
@@ -93,6 +106,8 @@ def concentrations():
 
 def edges():
     """(the job, what its text must have)"""
+    for data, line in rows():
+        yield data, f'{line}\n'
     for data, number in [*codes(), *exposures(), *unusable()]:
         yield data, f'refused {number}\n' if number else 'concentration 0\n'
     for data, number in concentrations():

@@ -1,32 +1,24 @@
 -- The screening level is the largest concentration up to the cap whose verdict is 'below'.
 -- High is the concentration times its value at 1, so 'below' asks for a product of at most B, and a capped quotient is the largest such factor.
 use Prim.Native.Nat.{ℕ, _*_, _/_, _≤_, min}
-use native.Mathlib.Nat.{le-refl, le-of-eq, le-trans, mul-le-mul-right, min-le-left, min-le-right, le-min, div-mul-le-self, le-div-iff-mul-le, pos-of-ne-zero}
+use native.Mathlib.Nat.{le-refl, le-of-eq, le-trans, pos-of-ne-zero}
 use native.Mathlib.Omega.{arith}
 use mathlib.Core.Path.{_≡_, refl, ap, sym}
 use mathlib.Core.Bool.{Bool, true, false, cond}
 use lib.Dec.{eqb}
 use borrow.Author.Tests.{eqb-true, eqb-false}
+use Rattle.wide.specs.Quotient.{LargestQuotient}
+use Rattle.wide.proofs.LargestFactor.{min-is}
 use Rattle.screening.specs.Verdict.{Assessment, low, high, cappedQuotient, maxLevel, level}
 use Rattle.screening.specs.Promises.{LevelPromise}
 use Rattle.screening.proofs.Outcomes.{says, below-if}
 
-pub record LargestFactor (cap a b q : ℕ) : Type 0 where
-  pub within : q ≤ cap
-  pub fits : q * b ≤ a
-  pub largest : (C : ℕ) → C ≤ cap → C * b ≤ a → C ≤ q
-
-by-divisor : (cap a b : ℕ) (t : Bool) → eqb b 0 ≡ t → LargestFactor cap a b (cond t cap (min cap (a / b)))
+by-divisor : (cap a b : ℕ) (t : Bool) → eqb b 0 ≡ t → LargestQuotient a b cap (cond t cap (min cap (a / b)))
 by-divisor cap a b true e =
-    record { within = le-refl cap; fits = omega (arith, ap (λ t. cap * t) (eqb-true b 0 e)); largest = λ C l h. l }
-by-divisor cap a b false e =
-    record {
-      within = min-le-left cap (a / b);
-      fits = le-trans (mul-le-mul-right b (min-le-right cap (a / b))) (div-mul-le-self a b);
-      largest = λ C l h. le-min l (le-div-iff-mul-le (pos-of-ne-zero (eqb-false b 0 e)) .1 h);
-    }
+    record { within = le-refl cap; fits = omega (arith, ap (λ t. cap * t) (eqb-true b 0 e)); largest = λ k l h. l }
+by-divisor cap a b false e = min-is a b cap (pos-of-ne-zero (eqb-false b 0 e))
 
-pub capped-quotient-largest : (cap a b : ℕ) → LargestFactor cap a b (cappedQuotient cap a b)
+pub capped-quotient-largest : (cap a b : ℕ) → LargestQuotient a b cap (cappedQuotient cap a b)
 capped-quotient-largest cap a b = by-divisor cap a b (eqb b 0) refl
 
 high-scales : (a : Assessment) (C : ℕ) → high a C ≡ C * high a 1

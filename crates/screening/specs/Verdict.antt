@@ -78,7 +78,7 @@ badness Above = 2
 abbrev pub cappedQuotient : ℕ → ℕ → ℕ → ℕ
 cappedQuotient cap a b = cond (eqb b 0) cap (min cap (a / b))
 
--- The screening level: High is C times its value at 1, so this is the largest C with High ≤ B (`level-largest` of the promises).
+-- The screening level: High is C times its value at 1, so this is the largest C with High ≤ B (`LevelPromise`).
 abbrev pub maxLevel : ℕ
 maxLevel = 4000000000
 

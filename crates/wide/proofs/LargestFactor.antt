@@ -18,7 +18,7 @@ next-passes {a} {b} {cap} {q} s h = lt-of-not-le (λ f. more-fails (s .largest (
     more-fails : q + 1 ≤ q → ⊥
     more-fails l = omega arith
 
-min-is : (a b cap : ℕ) → 0 < b → LargestQuotient a b cap (min cap (a / b))
+pub min-is : (a b cap : ℕ) → 0 < b → LargestQuotient a b cap (min cap (a / b))
 min-is a b cap pos = record {
   within = min-le-left cap (a / b);
   fits = le-trans (mul-le-mul-right b (min-le-right cap (a / b))) (div-mul-le-self a b);

@@ -1,18 +1,16 @@
 -- There is one largest factor up to the cap: the limbs' quotient and the definition are both it.
 use mathlib.Core.Path.{_≡_}
 use Prim.Native.Nat.{ℕ}
-use native.Mathlib.Nat.{le-antisymm}
 use borrow.Author.Needs.{needs}
 use Rattle.wide.specs.Quotient.{LargestQuotient}
+use Rattle.wide.proofs.LargestFactor.{unique}
 use Rattle.screening.specs.Verdict.{cappedQuotient}
 use Rattle.screening.proofs.Level.{capped-quotient-largest}
 use Rattle.screening.proofs.verdict.level_of.Statement.{statement}
 use Rattle.screening.proofs.verdict.level_of.Tie as tie
 
 quotient-is : {a b cap q : ℕ} → LargestQuotient a b cap q → q ≡ cappedQuotient cap a b
-quotient-is {a} {b} {cap} {q} s =
-    let t = capped-quotient-largest cap a b in
-    le-antisymm (t .largest q (s .within) (s .fits)) (s .largest (cappedQuotient cap a b) (t .within) (t .fits))
+quotient-is {a} {b} {cap} s = unique s (capped-quotient-largest cap a b)
 
 returns : tie.Need-returns
 returns c = quotient-is (c .capped-quotient .ensures)
