@@ -2,9 +2,8 @@
 use Prim.Native.Nat.{ℕ}
 use native.Mathlib.Omega.{arith}
 use mathlib.Core.Path.{_≡_, refl}
-use mathlib.Core.Bool.{Bool, true, false}
+use mathlib.Core.Bool.{Bool, true, false, cond}
 use mathlib.Core.List.{List}
-use Rattle.balance.specs.Grounds.{choose}
 use Rattle.balance.specs.Refusals.{bookTooShort, countOutOfRange, bookLengthWrong, headerInvalid, memberOutOfRange, feedOutOfRange, feedNotOnce, feedsMisplaced, feedNotFromLower, sharesOutTooHigh}
 use Rattle.balance.specs.Promises.{Accepted}
 use Rattle.balance.specs.declared.Refusal.{Refusal}
@@ -24,7 +23,7 @@ pub record Passes (book : List ℕ) : Type 0 where
   pub shares-out : sharesOutTooHigh book ≡ false
 
 -- One ground is not met, and the rest pass.
-pub not-met : (met : Bool) (r : Refusal) (rest : Checked) → choose met (Refused r) rest ≡ Passed → (met ≡ false) × (rest ≡ Passed)
+pub not-met : (met : Bool) (r : Refusal) (rest : Checked) → cond met (Refused r) rest ≡ Passed → (met ≡ false) × (rest ≡ Passed)
 not-met true r rest e = absurd (let z : _≡_ {A = ℕ} 0 1 = cc in omega arith)
 not-met false r rest e = (refl, e)
 

@@ -1,6 +1,6 @@
 -- Numbered grounds for refusal, and the first that is met.
 use Prim.Native.Nat.{ℕ, zero, suc}
-use mathlib.Core.Bool.{Bool, true, false, _||_}
+use mathlib.Core.Bool.{Bool, true, false, _||_, cond}
 use mathlib.Core.List.{List, [], _∷_}
 use Rattle.balance.specs.declared.Refusal.{Refusal}
 use Rattle.balance.specs.declared.Refusal.the-variants.{RateTooHigh, BookTooShort, CountOutOfRange, BookLengthWrong, HeaderInvalid, MemberOutOfRange, FeedOutOfRange, FeedNotOnce, FeedsMisplaced, FeedNotFromLower, SharesOutTooHigh, ListTooShort}
@@ -29,19 +29,10 @@ pub record Ground : Type 0 where
 abbrev pub ground : Refusal → Bool → Ground
 ground r b = record { refusal = r; met = b }
 
-abbrev pub choose : Bool → Checked → Checked → Checked
-choose true first rest = first
-choose false first rest = rest
-
 -- The first ground that is met, in checking order.
 abbrev pub firstMet : List Ground → Checked
 firstMet [] = Passed
-firstMet (g ∷ gs) = choose (g .met) (Refused (g .refusal)) (firstMet gs)
-
--- What the earlier checks find, and where they pass what the later ones find.
-abbrev pub orElse : Checked → Checked → Checked
-orElse (Refused refusal) later = Refused refusal
-orElse Passed later = later
+firstMet (g ∷ gs) = cond (g .met) (Refused (g .refusal)) (firstMet gs)
 
 -- p holds of some number below n.
 unfoldable pub someBelow : ℕ → (ℕ → Bool) → Bool

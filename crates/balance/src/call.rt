@@ -10,7 +10,8 @@ use super::limits::MAX_RATE;
 use super::table::read_table;
 ghost use mathlib.Core.Path.{_≡_};
 ghost use lib.ListN.{length};
-ghost use Rattle.balance.specs.Grounds.{firstMet, orElse};
+ghost use Rattle.balance.specs.Grounds.{firstMet};
+ghost use Rattle.balance.specs.Private.Sequence.{orElse};
 ghost use Rattle.balance.specs.Factors.{factorGrounds, factorAnswer, factorList};
 
 // What the earlier checks find, and where they pass what the later ones find.

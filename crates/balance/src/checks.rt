@@ -21,14 +21,15 @@ use sizes::book_too_short;
 use sizes::count_out_of_range;
 use walk::feed_not_once;
 use zeros::header_invalid;
+ghost use mathlib.Core.Bool.{cond};
 ghost use mathlib.Core.Path.{_≡_};
-ghost use Rattle.balance.specs.Grounds.{choose, firstMet};
+ghost use Rattle.balance.specs.Grounds.{firstMet};
 ghost use Rattle.balance.specs.Refusals.{bookGrounds};
 ghost use Rattle.balance.specs.declared.Checked.the-variants.{Refused};
 
 // The refusal where its ground is met, and otherwise what the later checks find.
 pub(crate) fn refuse_if(met: bool, refusal: Refusal, later: Checked) -> Checked
-    ensures { λ r. ⌜ r ≡ choose met (Refused refusal) later ⌝ }
+    ensures { λ r. ⌜ r ≡ cond met (Refused refusal) later ⌝ }
 {
     if met {
         return Checked::Refused(refusal);

@@ -2,6 +2,7 @@
 -- book's factors stand in the first places. None is above the parent's, and none is more than at rate 0.
 use Prim.Native.Nat.{ℕ, _-_, _≤_, _<_}
 use native.Mathlib.Omega.{arith}
+use mathlib.Core.Bool.{cond}
 use mathlib.Core.Path.{_≡_, ap, _∙_}
 use mathlib.Core.List.{List, [], _∷_, _++_}
 use lib.Dec.{ltb}
@@ -11,7 +12,8 @@ use Rattle.balance.specs.Limits.{maxRate, maxMembers, wholeShare}
 use Rattle.balance.specs.Book.{members}
 use Rattle.balance.specs.Chain.{chainOf}
 use Rattle.balance.specs.Balance.{G}
-use Rattle.balance.specs.Grounds.{Ground, ground, choose, firstMet, orElse}
+use Rattle.balance.specs.Grounds.{Ground, ground, firstMet}
+use Rattle.balance.specs.Private.Sequence.{orElse}
 use Rattle.balance.specs.Refusals.{bookGrounds}
 use Rattle.balance.specs.Factors.{factorsAt, listOf, factorList}
 use Rattle.balance.specs.Promises.{Accepted}
@@ -35,10 +37,10 @@ call-passes :
     → firstMet (ground Refusal.RateTooHigh (ltb maxRate v) ∷ (gs ++ (ground Refusal.ListTooShort (ltb room n) ∷ []))) ≡ Checked.Passed
 call-passes gs v n room rate book fits =
     let last = ground Refusal.ListTooShort (ltb room n) ∷ [] in
-    ap (λ high. choose high (Checked.Refused Refusal.RateTooHigh) (firstMet (gs ++ last))) (le-ltb maxRate v rate)
+    ap (λ high. cond high (Checked.Refused Refusal.RateTooHigh) (firstMet (gs ++ last))) (le-ltb maxRate v rate)
     ∙ first-of-both gs last
     ∙ ap (λ found. orElse found (firstMet last)) book
-    ∙ ap (λ short. choose short (Checked.Refused Refusal.ListTooShort) Checked.Passed) (le-ltb room n fits)
+    ∙ ap (λ short. cond short (Checked.Refused Refusal.ListTooShort) Checked.Passed) (le-ltb room n fits)
 
 module _ (book : List ℕ) (accepted : Accepted book) where
   some : 1 ≤ members book

@@ -7,7 +7,7 @@ use mathlib.Core.List.{List, [], _∷_, _++_, map}
 use lib.Dec.{ltb}
 use lib.ListN.{length}
 use borrow.Author.Tests.{lt-ltb, le-ltb}
-use Rattle.balance.specs.Grounds.{Ground, choose, firstMet}
+use Rattle.balance.specs.Grounds.{Ground, firstMet}
 use Rattle.balance.specs.Refusals.{bookGrounds}
 use Rattle.balance.specs.declared.Checked.{Checked}
 use Rattle.screening.specs.Job.{medium, unit, attenuation, readingOf, jobLength, bookOf}
@@ -36,7 +36,7 @@ first-of-both (g ∷ gs) hs =
 choice-of-book :
     (g : Ground) (rest : Checked) (met : Bool)
     → cond met (JobChecked.Refused (JobRefusal.Book (g .refusal))) (bookChecked rest)
-    ≡ bookChecked (choose met (Checked.Refused (g .refusal)) rest)
+    ≡ bookChecked (cond met (Checked.Refused (g .refusal)) rest)
 choice-of-book g rest true = refl
 choice-of-book g rest false = refl
 

@@ -13,7 +13,7 @@ use borrow.Author.Tests.{ltb-false, le-ltb, ne-eqb}
 use Rattle.balance.specs.Bytes.{u16At, u32At, u64At}
 use Rattle.balance.specs.Limits.{maxMembers, maxFeeds}
 use Rattle.balance.specs.Book.{members, feedCount}
-use Rattle.balance.specs.Grounds.{choose, firstMet}
+use Rattle.balance.specs.Grounds.{firstMet}
 use Rattle.balance.specs.Refusals.{outside, bookTooShort, countOutOfRange, bookLengthWrong, bookGrounds}
 use Rattle.balance.specs.declared.Checked.{Checked}
 use Rattle.balance.specs.declared.Refusal.{Refusal}
@@ -46,7 +46,7 @@ length-wrong n m size long counts =
 
 count-or-length :
     (short counts wrong : Bool) (first second third : Refusal) (rest : Checked) → short ≡ false → (counts ≡ false → wrong ≡ true) →
-    choose short (Checked.Refused first) (choose counts (Checked.Refused second) (choose wrong (Checked.Refused third) rest))
+    cond short (Checked.Refused first) (cond counts (Checked.Refused second) (cond wrong (Checked.Refused third) rest))
     ≡ Checked.Refused (cond counts second third)
 count-or-length short true wrong first second third rest long otherwise = rw long
 count-or-length short false wrong first second third rest long otherwise = rw (long, otherwise refl)

@@ -1,9 +1,10 @@
 -- `balance::call::check_call` meets its contract. The checks are chosen from in the order of the list: the rate, the book's, the list's length.
 use borrow.Author.Needs.{needs}
 use mathlib.Core.Path.{_≡_, ap}
-use mathlib.Core.Bool.{Bool}
+use mathlib.Core.Bool.{Bool, cond}
 use mathlib.Core.List.{List, [], _∷_, _++_}
-use Rattle.balance.specs.Grounds.{Ground, ground, choose, firstMet, orElse}
+use Rattle.balance.specs.Grounds.{Ground, ground, firstMet}
+use Rattle.balance.specs.Private.Sequence.{orElse}
 use Rattle.balance.specs.declared.Checked.{Checked}
 use Rattle.balance.specs.declared.Checked.the-variants.{Passed, Refused}
 use Rattle.balance.specs.declared.Refusal.the-variants.{RateTooHigh, ListTooShort}
@@ -17,9 +18,9 @@ use Rattle.balance.proofs.call.check_call.Tie as tie
 -- What the call's checks find, from what each finds.
 found-first :
     (gs : List Ground) (high : Bool) {short met : Bool} {r found book list : Checked} →
-    r ≡ choose high (Refused RateTooHigh) found → found ≡ orElse book list → book ≡ firstMet gs →
-    list ≡ choose met (Refused ListTooShort) Passed → met ≡ short →
-    r ≡ choose high (Refused RateTooHigh) (firstMet (gs ++ (ground ListTooShort short ∷ [])))
+    r ≡ cond high (Refused RateTooHigh) found → found ≡ orElse book list → book ≡ firstMet gs →
+    list ≡ cond met (Refused ListTooShort) Passed → met ≡ short →
+    r ≡ cond high (Refused RateTooHigh) (firstMet (gs ++ (ground ListTooShort short ∷ [])))
 found-first gs high {short} e f b l m = rw (first-of-both gs (ground ListTooShort short ∷ [])) (cc)
 
 returns : tie.Need-returns

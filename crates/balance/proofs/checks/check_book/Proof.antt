@@ -1,8 +1,7 @@
 -- `balance::checks::check_book` meets its contract. The sizes are tested in turn; the later grounds make one chain of choices, as in the definition.
 use borrow.Author.Needs.{needs}
 use mathlib.Core.Path.{_≡_, refl, _∙_, sym}
-use mathlib.Core.Bool.{Bool}
-use Rattle.balance.specs.Grounds.{choose}
+use mathlib.Core.Bool.{Bool, cond}
 use Rattle.balance.specs.declared.Refusal.{Refusal}
 use Rattle.balance.specs.declared.Refusal.the-variants.{HeaderInvalid, MemberOutOfRange, FeedOutOfRange, FeedNotOnce, FeedsMisplaced, FeedNotFromLower, SharesOutTooHigh}
 use Rattle.balance.specs.declared.Checked.{Checked}
@@ -17,7 +16,7 @@ known e t = sym e ∙ t
 -- What a refusal or the later checks say, where the later checks agree with the rest of the grounds.
 choice :
     {r later rest : Checked} {met ground : Bool} (refusal : Refusal) →
-    r ≡ choose met (Refused refusal) later → met ≡ ground → later ≡ rest → r ≡ choose ground (Refused refusal) rest
+    r ≡ cond met (Refused refusal) later → met ≡ ground → later ≡ rest → r ≡ cond ground (Refused refusal) rest
 choice refusal e m l = cc
 
 returns : tie.Need-returns
