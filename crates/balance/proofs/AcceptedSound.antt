@@ -8,16 +8,15 @@ use mathlib.Core.Bool.{false, cond}
 use mathlib.Core.List.{List, [], _∷_, map, map-append}
 use lib.Dec.{eqb, leb}
 use borrow.Author.Tests.{leb-false}
-use Rattle.balance.specs.Limits.{wholeShare}
-use Rattle.balance.specs.Book.{members, feedCount, share, from, feedsOf}
-use Rattle.balance.specs.Grounds.{someIn}
-use Rattle.balance.specs.Refusals.{walk, sharesOut, feedNotFromLower}
+use Rattle.book.specs.Fields.{members, feedCount, scaleOf, share, from, feedsOf}
+use Rattle.book.specs.Tests.{someIn}
+use Rattle.book.specs.BookGrounds.{walk, sharesOut, feedNotFromLower, Accepted}
 use Rattle.balance.specs.Chain.{feedOf, chainOf}
 use Rattle.balance.specs.Private.Sound.{Sound, FromBelow, sharesFrom, feedsBelow}
-use Rattle.balance.specs.Promises.{Accepted}
-use Rattle.balance.proofs.NoneMet.{neither, none-below}
-use Rattle.balance.proofs.Passes.{accepted-passes}
-use Rattle.balance.proofs.Ranges.{accepted-ranges}
+use Rattle.refusals.proofs.FirstMet.{neither}
+use Rattle.book.proofs.NoneMet.{none-below}
+use Rattle.book.proofs.BookPasses.{accepted-passes}
+use Rattle.book.proofs.Ranges.{accepted-ranges}
 use Rattle.balance.proofs.Origin.{sumBelow}
 use Rattle.balance.proofs.Walk.{Listed}
 use Rattle.balance.proofs.OnceEach.{sumOver, once-each}
@@ -51,7 +50,7 @@ module _ (book : List ℕ) where
   shares-summed i (suc m) = ap (λ y. y + shareOut i m) (shares-summed i m)
 
   module _ (accepted : Accepted book) where
-    shares-at-most : (i : ℕ) → i < members book → sharesFrom i (feedsBelow (chainOf book) (members book)) ≤ wholeShare
+    shares-at-most : (i : ℕ) → i < members book → sharesFrom i (feedsBelow (chainOf book) (members book)) ≤ scaleOf book
     shares-at-most i l =
         let ranges = accepted-ranges book accepted in
         let m = feedCount book in
@@ -62,7 +61,7 @@ module _ (book : List ℕ) where
         (once-each (shareOut i) m js listed (λ j h. le-of-eq (ranges .feed j h .once)))
         (rw (shares-summed i m) (ranges .member i l .shares-out)))
 
-    pub accepted-sound : Sound wholeShare (chainOf book)
+    pub accepted-sound : Sound (scaleOf book) (chainOf book)
     unfolding feedNotFromLower
     accepted-sound =
         record {

@@ -1,13 +1,12 @@
 -- Summing a member's inflow along its feeds: what is summed so far and the inflow of the feeds still ahead make the whole inflow.
 -- A turn moves the next feed from the second part to the first, so no partial sum is above the whole.
-use Prim.Native.Nat.{ℕ, zero, suc, _+_, _-_, _*_, _≤_, _<_}
-use mathlib.Core.Path.{_≡_, refl, sym, _∙_, ap}
+use Prim.Native.Nat.{ℕ, zero, suc, _+_, _-_, _*_, _^_, _≤_, _<_}
+use mathlib.Core.Path.{_≡_, refl}
 use mathlib.Core.List.{List}
 use native.Mathlib.Omega.{arith}
 use lib.ListN.{length, getD}
-use Rattle.balance.specs.Limits.{wholeShare}
-use Rattle.balance.specs.Book.{along}
-use Rattle.balance.specs.Balance.{G, inflow}
+use Rattle.book.specs.Fields.{along}
+use Rattle.balance.specs.Balance.{inflow}
 use Rattle.balance.specs.Private.Fillable.{Linked, feedsFrom}
 
 module _ (shares froms nexts factors : List ℕ) where
@@ -43,7 +42,7 @@ linked-within h linked =
 
 pub record Summed (first feeds : ℕ) (shares froms nexts factors : List ℕ) (sum feed left : ℕ) : Type 0 where
   pub linked : Linked first feeds (length factors) froms nexts
-  pub bound : ahead shares froms nexts factors (feeds + 1) first ≤ wholeShare * G
+  pub bound : ahead shares froms nexts factors (feeds + 1) first < 2 ^ 64
   pub here : feed ≤ feeds
   pub turns : left ≤ feeds + 1
   pub total : sum + ahead shares froms nexts factors left feed ≡ ahead shares froms nexts factors (feeds + 1) first
@@ -51,29 +50,30 @@ pub record Summed (first feeds : ℕ) (shares froms nexts factors : List ℕ) (s
 module _ {first feeds : ℕ} {shares froms nexts factors : List ℕ} where
   pub summed-none :
       Linked first feeds (length factors) froms nexts →
-      ahead shares froms nexts factors (feeds + 1) first ≤ wholeShare * G →
+      ahead shares froms nexts factors (feeds + 1) first < 2 ^ 64 →
       Summed first feeds shares froms nexts factors 0 first (feeds + 1)
   summed-none linked bound =
       record { linked = linked; bound = bound; here = linked .start; turns = omega arith; total = omega arith }
 
-  pub summed-from : {sum feed left : ℕ} → Summed first feeds shares froms nexts factors sum feed left → (feed ≡ 0 → ⊥) →
-      getD froms (feed - 1) 0 < length factors
-  summed-from {sum} {feed} s h = s .linked .from (feed - 1) (omega arith)
+  module _ {sum feed left from : ℕ} (s : Summed first feeds shares froms nexts factors sum feed left) (more : feed ≡ 0 → ⊥) where
+    pub summed-from : from ≡ getD froms (feed - 1) 0 → from < length factors
+    summed-from e = rw e (s .linked .from (feed - 1) (omega arith))
 
-  pub summed-fits : {sum feed left : ℕ} → Summed first feeds shares froms nexts factors sum feed left → 0 < left → (feed ≡ 0 → ⊥) →
-      sum + part shares froms nexts factors (feed - 1) ≤ wholeShare * G
-  summed-fits {sum} {feed} {left} s l h = omega (arith, ahead-turn shares froms nexts factors left feed l h, s .total, s .bound)
+    module _ {share : ℕ} (l : 0 < left) (shared : share ≡ getD shares (feed - 1) 0) (fed : from ≡ getD froms (feed - 1) 0) where
+      pub summed-fits : sum + share * getD factors from 0 < 2 ^ 64
+      summed-fits = rw (shared, fed) (omega (arith, ahead-turn shares froms nexts factors left feed l more, s .total, s .bound))
 
-  pub summed-more : {sum feed left : ℕ} → Summed first feeds shares froms nexts factors sum feed left → 0 < left → (feed ≡ 0 → ⊥) →
-      Summed first feeds shares froms nexts factors (sum + part shares froms nexts factors (feed - 1)) (getD nexts (feed - 1) 0) (left - 1)
-  summed-more {sum} {feed} {left} s l h =
-      record {
-        linked = s .linked;
-        bound = s .bound;
-        here = s .linked .next (feed - 1) (omega arith);
-        turns = omega arith;
-        total = omega (arith, ahead-turn shares froms nexts factors left feed l h, s .total);
-      }
+      pub summed-more : {next : ℕ} → next ≡ getD nexts (feed - 1) 0 →
+          Summed first feeds shares froms nexts factors (sum + share * getD factors from 0) next (left - 1)
+      summed-more follows =
+          rw (shared, fed, follows)
+          record {
+            linked = s .linked;
+            bound = s .bound;
+            here = s .linked .next (feed - 1) (omega arith);
+            turns = omega arith;
+            total = omega (arith, ahead-turn shares froms nexts factors left feed l more, s .total);
+          }
 
   pub summed-at-end : {sum feed left : ℕ} → Summed first feeds shares froms nexts factors sum feed left → feed ≡ 0 →
       sum ≡ ahead shares froms nexts factors (feeds + 1) first

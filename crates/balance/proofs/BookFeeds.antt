@@ -7,10 +7,9 @@ use native.Mathlib.Omega.{arith}
 use mathlib.Core.Path.{_≡_}
 use mathlib.Core.List.{List}
 use lib.ListN.{length, length-append}
-use Rattle.balance.specs.Book.{members, feedCount, firstFeed, next, along, feedsOf}
-use Rattle.balance.specs.Refusals.{walk}
-use Rattle.balance.specs.Promises.{Accepted}
-use Rattle.balance.proofs.Ranges.{accepted-ranges}
+use Rattle.book.specs.Fields.{members, feedCount, firstFeed, next, along, feedsOf}
+use Rattle.book.specs.BookGrounds.{walk, Accepted}
+use Rattle.book.proofs.Ranges.{accepted-ranges}
 use Rattle.balance.proofs.Walk.{Listed, listed-append, along-listed, along-whole}
 use Rattle.balance.proofs.OnceEach.{length-at-most}
 

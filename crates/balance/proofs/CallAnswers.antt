@@ -5,41 +5,42 @@ use native.Mathlib.Omega.{arith}
 use mathlib.Core.Path.{_≡_, sym, subst, _∙_, ap}
 use mathlib.Core.List.{List, _++_}
 use lib.ListN.{length, drop}
-use Rattle.balance.specs.Limits.{wholeShare}
-use Rattle.balance.specs.Book.{members}
-use Rattle.balance.specs.Grounds.{firstMet}
+use Rattle.balance.specs.Rates.{ratesAt}
+use Rattle.book.specs.Fields.{members, scaleOf}
+use Rattle.refusals.specs.Grounds.{firstMet}
 use Rattle.balance.specs.Chain.{chainOf}
-use Rattle.balance.specs.Table.{tableOf, chainIn}
+use Rattle.balance.specs.Private.Tabled.{scaleIn, ratesIn, chainIn}
+use Rattle.book.specs.Table.{tableOf}
 use Rattle.balance.specs.Private.Fillable.{Fillable}
 use Rattle.balance.specs.Balance.{reported}
-use Rattle.balance.specs.Factors.{factorGrounds, factorsAt, answerOf, listOf, factorAnswer, factorList}
-use Rattle.balance.specs.Promises.{Accepted}
-use Rattle.balance.specs.declared.Checked.{Checked}
+use Rattle.balance.specs.Factors.{factorGrounds, factorsAt, filledIf, writtenIf, factorAnswer, factorList}
+use Rattle.book.specs.BookGrounds.{Accepted}
+use Rattle.refusals.specs.declared.Checked.{Checked}
 use Rattle.balance.specs.declared.FactorAnswer.{FactorAnswer}
-use Rattle.balance.specs.declared.Refusal.{Refusal}
-use Rattle.balance.specs.declared.table.ChainTable.{ChainTable}
-use Rattle.balance.proofs.Ranges.{accepted-ranges}
+use Rattle.refusals.specs.declared.Refusal.{Refusal}
+use Rattle.book.specs.declared.table.ChainTable.{ChainTable}
+use Rattle.book.proofs.Ranges.{accepted-ranges}
 use Rattle.balance.proofs.Reported.{reported-length}
-use Rattle.balance.proofs.TableFields.{table-members}
+use Rattle.book.proofs.TableFields.{table-members}
 use Rattle.balance.proofs.TableMeans.{accepted-fillable, table-factors}
 use Rattle.balance.proofs.CallPasses.{CallPasses, call-passes}
 
 -- One factor for each member.
-factors-length : (book : List ℕ) (v : ℕ) → Accepted book → length (factorsAt book v) ≡ members book
+pub factors-length : (book : List ℕ) (v : ℕ) → Accepted book → length (factorsAt book v) ≡ members book
 factors-length book v accepted =
     let some = accepted-ranges book accepted .members-count .from in
     let last : suc (members book - 1) ≡ members book = omega arith in
-    reported-length wholeShare (chainOf book) (λ i. v) (members book - 1) ∙ last
+    reported-length (scaleOf book) (chainOf book) (ratesAt book v) (members book - 1) ∙ last
 
 -- What the fill leaves, of the book's table, in the book's own terms.
 table-written :
     (book : List ℕ) (v : ℕ) (list : List ℕ)
     → Accepted book
-    → reported wholeShare (chainIn (tableOf book)) (λ i. v) (tableOf book .members - 1) ++ drop (tableOf book .members) list
+    → reported (scaleIn (tableOf book)) (chainIn (tableOf book)) (ratesIn (tableOf book) v) (tableOf book .members - 1) ++ drop (tableOf book .members) list
     ≡ factorsAt book v ++ drop (length (factorsAt book v)) list
 table-written book v list accepted =
     ap
-    (λ n. reported wholeShare (chainIn (tableOf book)) (λ i. v) (n - 1) ++ drop n list)
+    (λ n. reported (scaleIn (tableOf book)) (chainIn (tableOf book)) (ratesIn (tableOf book) v) (n - 1) ++ drop n list)
     (table-members book (accepted-ranges book accepted))
     ∙ ap (λ factors. factors ++ drop (members book) list) (table-factors book accepted v)
     ∙ ap (λ n. factorsAt book v ++ drop n list) (sym (factors-length book v accepted))
@@ -47,10 +48,10 @@ table-written book v list accepted =
 module _ (v : ℕ) (book list : List ℕ) {found : Checked} (checked : found ≡ firstMet (factorGrounds v book (length list))) where
   module _ {r : Refusal} (refused : found ≡ Checked.Refused r) where
     pub refused-answer : FactorAnswer.Refused r ≡ factorAnswer v book (length list)
-    refused-answer = ap (λ result. answerOf result (members book)) (sym refused ∙ checked)
+    refused-answer = ap (λ result. filledIf result (members book)) (sym refused ∙ checked)
 
     pub refused-list : list ≡ factorList v book list
-    refused-list = ap (λ result. listOf result (factorsAt book v) list) (sym refused ∙ checked)
+    refused-list = ap (λ result. writtenIf result (factorsAt book v) list) (sym refused ∙ checked)
 
   module _ (passed : found ≡ Checked.Passed) {table : ChainTable} (read : table ≡ tableOf book) where
     passes : CallPasses v book (length list)
@@ -66,14 +67,14 @@ module _ (v : ℕ) (book list : List ℕ) {found : Checked} (checked : found ≡
     pub filled-answer : FactorAnswer.Filled (table .members) ≡ factorAnswer v book (length list)
     filled-answer =
         ap FactorAnswer.Filled (ap (λ t. t .members) read ∙ table-members book (accepted-ranges book (passes .accepted)))
-        ∙ ap (λ result. answerOf result (members book)) (sym passed ∙ checked)
+        ∙ ap (λ result. filledIf result (members book)) (sym passed ∙ checked)
 
     pub filled-list :
         {now : List ℕ}
-        → now ≡ reported wholeShare (chainIn table) (λ i. v) (table .members - 1) ++ drop (table .members) list
+        → now ≡ reported (scaleIn table) (chainIn table) (ratesIn table v) (table .members - 1) ++ drop (table .members) list
         → now ≡ factorList v book list
     filled-list written =
         written
-        ∙ ap (λ t. reported wholeShare (chainIn t) (λ i. v) (t .members - 1) ++ drop (t .members) list) read
+        ∙ ap (λ t. reported (scaleIn t) (chainIn t) (ratesIn t v) (t .members - 1) ++ drop (t .members) list) read
         ∙ table-written book v list (passes .accepted)
-        ∙ ap (λ result. listOf result (factorsAt book v) list) (sym passed ∙ checked)
+        ∙ ap (λ result. writtenIf result (factorsAt book v) list) (sym passed ∙ checked)

@@ -1,19 +1,18 @@
--- What passing the call's checks says: the rate is within its limit, the book is accepted, and the lent list has a place for each member.
+-- What passing the call's checks says, and is told by: the rate is within its limit, the book is accepted, and the lent list has a place for each member.
 use Prim.Native.Nat.{ℕ, _≤_}
-use mathlib.Core.Path.{_≡_, sym, _∙_}
-use mathlib.Core.List.{List, [], _∷_}
+use mathlib.Core.Bool.{cond}
+use mathlib.Core.Path.{_≡_, ap, sym, _∙_}
+use mathlib.Core.List.{List, [], _∷_, _++_}
 use lib.Dec.{ltb}
-use borrow.Author.Tests.{ltb-false}
-use Rattle.balance.specs.Limits.{maxRate}
-use Rattle.balance.specs.Book.{members}
-use Rattle.balance.specs.Grounds.{ground, firstMet}
-use Rattle.balance.specs.Refusals.{bookGrounds}
+use borrow.Author.Tests.{ltb-false, le-ltb}
+use Rattle.balance.specs.Rates.{maxRate}
+use Rattle.book.specs.Fields.{members}
+use Rattle.refusals.specs.Grounds.{ground, firstMet, orElse}
+use Rattle.book.specs.BookGrounds.{bookGrounds, Accepted}
 use Rattle.balance.specs.Factors.{factorGrounds}
-use Rattle.balance.specs.Promises.{Accepted}
-use Rattle.balance.specs.declared.Checked.the-variants.{Passed}
-use Rattle.balance.specs.declared.Refusal.the-variants.{ListTooShort}
-use Rattle.balance.proofs.Passes.{not-met}
-use Rattle.balance.proofs.FirstMet.{first-of-both, both-pass}
+use Rattle.refusals.specs.declared.Checked.the-variants.{Passed, Refused}
+use Rattle.refusals.specs.declared.Refusal.the-variants.{RateTooHigh, ListTooShort}
+use Rattle.refusals.proofs.FirstMet.{not-met, first-of-both, both-pass}
 
 pub record CallPasses (v : ℕ) (book : List ℕ) (room : ℕ) : Type 0 where
   pub rate : v ≤ maxRate
@@ -30,3 +29,11 @@ call-passes v book room passed =
       accepted = rest .0;
       enough = ltb-false room (members book) (not-met (ltb room (members book)) _ _ (rest .1) .0);
     }
+
+pub passing-call : (v : ℕ) (book : List ℕ) (room : ℕ) → CallPasses v book room → firstMet (factorGrounds v book room) ≡ Passed
+passing-call v book room passes =
+    let short = ground ListTooShort (ltb room (members book)) ∷ [] in
+    ap (λ high. cond high (Refused RateTooHigh) (firstMet (bookGrounds book ++ short))) (le-ltb maxRate v (passes .rate))
+    ∙ first-of-both (bookGrounds book) short
+    ∙ ap (λ found. orElse found (firstMet short)) (passes .accepted)
+    ∙ ap (λ met. cond met (Refused ListTooShort) Passed) (le-ltb room (members book) (passes .enough))

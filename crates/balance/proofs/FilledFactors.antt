@@ -1,16 +1,16 @@
 -- A list whose first places are filled with the reported factors so far holds all that the next factor needs:
 -- the feeds of a member come from lower members, whose factors stand in those places.
 use Prim.Native.Nat.{ℕ, zero, suc, _+_, _-_, _*_, _/_, _≤_, _<_}
-use mathlib.Core.Path.{_≡_, refl, sym, _∙_, ap}
-use mathlib.Core.List.{List, [], _∷_, _++_}
+use mathlib.Core.Path.{_≡_, refl, sym, _∙_}
+use mathlib.Core.List.{List, _++_}
 use native.Mathlib.Omega.{arith}
 use lib.ListN.{length, getD, set, drop, length-set, List·getD-append}
 use lib.Seq.{set-set, drop-set-lt}
 use Rattle.balance.specs.Chain.{Feed, Chain}
 use Rattle.balance.specs.Private.Sound.{FromBelow, Sound}
-use Rattle.balance.specs.Table.{upTo, filled}
+use Rattle.book.specs.Table.{upTo, filled}
 use Rattle.balance.specs.Balance.{G, K, removal, inflow, reported, reportedFactor}
-use Rattle.balance.proofs.Filled.{Filled, filled-none, filled-more}
+use Rattle.book.proofs.Filled.{Filled, filled-none, filled-more}
 use Rattle.balance.proofs.Inflow.{inflow-of-list, inflow-same}
 use Rattle.balance.proofs.Reported.{reported-length, reported-next}
 use Rattle.balance.proofs.SoundFactors.{inflow-at-most-G}

@@ -15,29 +15,17 @@ pub mod Monotone
 pub mod SoundFactors
 pub mod Agrees
 pub mod SoundAgrees
--- From an accepted book to a sound chain, and the promises.
-pub mod NoneMet
-pub mod FirstMet
-pub mod Passes
-pub mod Ranges
+-- From an accepted book to a sound chain.
 pub mod Walk
 pub mod OnceEach
 pub mod BookFeeds
 pub mod AcceptedSound
-pub mod Promised
--- The loops of the checks.
-pub mod Either
-pub mod Tested
-pub mod Along
-pub mod Sought
-pub mod Occurrences
-pub mod Counted
--- The table, the fill and the call.
-pub mod Filled
-pub mod TableFields
+-- The table and the fill.
 pub mod TableMeans
 pub mod Quotients
 pub mod AlongFeeds
 pub mod FilledFactors
+-- The call, and the promises.
 pub mod CallPasses
 pub mod CallAnswers
+pub mod Promised

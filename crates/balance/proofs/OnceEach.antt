@@ -9,7 +9,7 @@ use lib.Dec.{eqb, eqb·zero-suc, eqb·suc-zero, eqb·suc-suc}
 use lib.ListN.{length}
 use Rattle.balance.specs.Chain.{Feed}
 use Rattle.balance.specs.Private.Sound.{FromBelow, sharesFrom}
-use Rattle.balance.specs.Refusals.{occurrences}
+use Rattle.book.specs.BookGrounds.{occurrences}
 use Rattle.balance.proofs.Inflow.{inflowOf}
 use Rattle.balance.proofs.Origin.{sumBelow, sum-le, inflow-by-origin}
 use Rattle.balance.proofs.Walk.{Listed}

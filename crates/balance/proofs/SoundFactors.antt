@@ -17,7 +17,7 @@ use Rattle.balance.proofs.Bounds.{reported-at-most, reported-inflow, ex
 use Rattle.balance.proofs.Monotone.{reported-falls-along, exact-falls-along}
 
 module _ {scale : ℕ} {chain : Chain} (pos : 0 < scale) (sound : Sound scale chain) where
-  pub factor-promise : {rate : ℕ → ℕ} (i : ℕ) → i < chain .count → FactorPromise scale chain rate i
+  pub factor-promise : {rate : ℕ → ℕ} (i : ℕ) → i < chain .count → FactorPromise scale chain rate i (reportedFactor scale chain rate i)
   factor-promise {rate} i l =
       let P = denominator scale chain rate i in
       let exact = exact-solves scale chain rate sound i l in

@@ -6,25 +6,26 @@ use native.Mathlib.Omega.{arith}
 use mathlib.Core.Path.{_≡_, refl, _∙_, ap}
 use mathlib.Core.List.{List, map}
 use lib.ListN.{getD}
-use Rattle.balance.specs.Limits.{maxRate, maxHalfLife, wholeShare}
-use Rattle.balance.specs.Book.{members, feedCount, halfLife, firstFeed, next, feedsOf}
-use Rattle.balance.specs.Refusals.{longest}
+use Rattle.balance.specs.Rates.{maxRate}
+use Rattle.book.specs.Limits.{maxHalfLife}
+use Rattle.book.specs.Fields.{members, feedCount, scaleOf, halfLife, firstFeed, next, feedsOf}
+use Rattle.book.specs.BookGrounds.{longest, Accepted}
 use Rattle.balance.specs.Chain.{feedOf, chainOf}
+use Rattle.balance.specs.Private.Tabled.{scaleIn, ratesIn, feedIn, feedsIn, chainIn}
 use Rattle.balance.specs.Private.Sound.{Sound}
-use Rattle.balance.specs.Table.{tableOf, feedIn, feedsIn, chainIn}
+use Rattle.book.specs.Table.{tableOf}
 use Rattle.balance.specs.Private.Fillable.{Linked, Fillable}
 use Rattle.balance.specs.Balance.{reported}
 use Rattle.balance.specs.Factors.{factorsAt}
-use Rattle.balance.specs.Promises.{Accepted}
-use Rattle.balance.proofs.Ranges.{Within, Ranges, accepted-ranges}
+use Rattle.book.proofs.Ranges.{InRange, Ranges, accepted-ranges}
 use Rattle.balance.proofs.Walk.{along-same, map-same}
 use Rattle.balance.proofs.BookFeeds.{feeds-listed}
 use Rattle.balance.proofs.AcceptedSound.{accepted-sound}
 use Rattle.balance.proofs.SoundAgrees.{sound-agrees}
 use Rattle.balance.proofs.Agrees.{reported-agrees}
-use Rattle.balance.proofs.TableFields.{table-members, table-feeds, table-half-life, table-first, table-share, table-from, table-next}
+use Rattle.book.proofs.TableFields.{table-members, table-feeds, table-half-life, table-first, table-share, table-from, table-next}
 
-later-half-life : (book : List ℕ) (i : ℕ) → 1 ≤ i → Within 1 (longest i) (halfLife book i) → halfLife book i ≤ maxHalfLife
+later-half-life : (book : List ℕ) (i : ℕ) → 1 ≤ i → InRange 1 (longest i) (halfLife book i) → halfLife book i ≤ maxHalfLife
 later-half-life book zero later within = absurd (omega arith)
 later-half-life book (suc i) later within = within .to
 
@@ -53,7 +54,7 @@ module _ (book : List ℕ) (accepted : Accepted book) where
       ap (map (feedIn (tableOf book))) (feeds-walked i l)
       ∙ map-same (feedCount book) (feedIn (tableOf book)) (feedOf book) feed-same (feedsOf book i) (feeds-listed book accepted i l)
 
-  table-sound : Sound wholeShare (chainIn (tableOf book))
+  table-sound : Sound (scaleIn (tableOf book)) (chainIn (tableOf book))
   table-sound = sound-agrees (chainIn (tableOf book)) (chainOf book) feeds-same (table-members book ranges) (accepted-sound book accepted)
 
   linked : (i : ℕ) → i < members book → Linked (firstFeed book i) (feedCount book) (members book) (tableOf book .froms) (tableOf book .nexts)
@@ -82,10 +83,10 @@ module _ (book : List ℕ) (accepted : Accepted book) where
         sound = table-sound;
       }
 
-  pub table-factors : (v : ℕ) → reported wholeShare (chainIn (tableOf book)) (λ i. v) (members book - 1) ≡ factorsAt book v
+  pub table-factors : (v : ℕ) → reported (scaleIn (tableOf book)) (chainIn (tableOf book)) (ratesIn (tableOf book) v) (members book - 1) ≡ factorsAt book v
   table-factors v =
       let some = ranges .members-count .from in
-      reported-agrees wholeShare (members book - 1)
+      reported-agrees (scaleOf book) (members book - 1)
       record {
         halfLives = λ k le. table-half-life book ranges k (omega arith);
         feeds = λ k le. feeds-same k (omega arith);

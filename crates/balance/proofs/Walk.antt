@@ -6,7 +6,7 @@ use native.Mathlib.Omega.{arith}
 use mathlib.Core.Path.{_≡_, refl, ap}
 use mathlib.Core.List.{List, [], _∷_, _++_, map}
 use lib.ListN.{length}
-use Rattle.balance.specs.Book.{along}
+use Rattle.book.specs.Fields.{along}
 
 -- Every feed listed is 1 to m.
 abbrev pub Listed : ℕ → List ℕ → Type 0

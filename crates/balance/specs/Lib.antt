@@ -1,10 +1,5 @@
-pub mod Bytes
-pub mod Limits
-pub mod Book
-pub mod Grounds
-pub mod Refusals
+pub mod Rates
 pub mod Chain
-pub mod Table
 pub mod Balance
 pub mod Exact
 pub mod Factors

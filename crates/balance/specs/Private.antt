@@ -1,4 +1,4 @@
 -- Definitions that only the contracts of private functions and the proofs cite. No public contract rests on them.
-pub mod Sequence
+pub mod Tabled
 pub mod Sound
 pub mod Fillable

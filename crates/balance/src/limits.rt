@@ -1,16 +1,10 @@
-// The limits of a chain book, as specs/Limits.antt names them.
-pub(crate) const MAX_RATE: u32 = 100_000;
+// The numbers of the balance, as specs/Rates.antt and specs/Balance.antt name them.
 
-pub(crate) const MAX_MEMBERS: u64 = 16;
+// The rate is in hundredths of an air change per hour.
+pub const MAX_RATE: u32 = 100_000;
 
-pub(crate) const MAX_FEEDS: u64 = 64;
+// G, the parent's factor in grains; a grain is 2^-40 of its activity.
+pub const GRAINS: u64 = 1_099_511_627_776;
 
-// A half-life is in nanoseconds.
-pub(crate) const MAX_PARENT_HALF_LIFE: u64 = 1_000_000_000_000_000;
-
-pub(crate) const MAX_HALF_LIFE: u64 = 60_000_000_000_000;
-
-pub(crate) const MAX_COEFFICIENT: u32 = 4_000_000_000;
-
-// A share is in hundred-thousandths: this many are the whole.
-pub(crate) const WHOLE_SHARE: u64 = 100_000;
+// K, which holds ln 2.
+pub(crate) const DECAY: u64 = 249_532_985_160_000;

@@ -2,6 +2,7 @@
 // A record is a length (u16, little-endian) and that many bytes.
 use libc::STDIN_FILENO;
 use libc::STDOUT_FILENO;
+use report::REPORT_ROOM;
 ghost use Prim.Native.Nat.{_≤_};
 ghost use lib.ListN.{length};
 
@@ -25,7 +26,7 @@ fn run_next() -> bool {
         return false;
     }
     let mut space = io::large_buffer();
-    run_record(&mut space, balance::u16_at(&head, 0) as usize)
+    run_record(&mut space, book::u16_at(&head, 0) as usize)
 }
 
 fn run_record(space: &mut [u8], size: usize) -> bool
@@ -41,8 +42,7 @@ fn run_in(room: &mut [u8]) -> bool {
 }
 
 fn write_report(job: &[u8]) -> bool {
-    let text = screening::report_job(job);
-    let bytes = text.bytes;
-    let len = text.len;
-    io::write_all(STDOUT_FILENO, &bytes[..len])
+    let mut room = [0u8; REPORT_ROOM];
+    let n = report::whole_report(job, &mut room);
+    io::write_all(STDOUT_FILENO, &room[..n])
 }

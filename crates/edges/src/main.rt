@@ -33,9 +33,9 @@ fn run_first(cases: &[u8]) -> usize
     if cases.len() < 8 {
         return 0;
     }
-    let rate = balance::u32_at(cases, 0) as u32;
-    let room = balance::u16_at(cases, 4) as usize;
-    let size = balance::u16_at(cases, 6) as usize;
+    let rate = book::u32_at(cases, 0) as u32;
+    let room = book::u16_at(cases, 4) as usize;
+    let size = book::u16_at(cases, 6) as usize;
     if cases.len() - 8 < size {
         return 0;
     }
@@ -69,7 +69,7 @@ fn print_answer(answer: FactorAnswer) {
         }
         FactorAnswer::Refused(refusal) => {
             io::write_all(STDOUT_FILENO, b"refused ");
-            io::print_decimal(STDOUT_FILENO, balance::refusal_number(refusal));
+            io::print_decimal(STDOUT_FILENO, refusals::refusal_number(refusal));
         }
     }
     io::write_all(STDOUT_FILENO, b" :");

@@ -1,3 +1,1 @@
 pub mod CodeRanges
-pub mod Copied
-pub mod NeverEmpty

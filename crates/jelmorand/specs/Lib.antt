@@ -1,2 +1,1 @@
 pub mod FactorCode
-pub mod ReportBytes

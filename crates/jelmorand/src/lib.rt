@@ -1,13 +1,13 @@
 // The calls that a program in C or Rust makes: each takes plain numbers and lists and answers a number.
 use balance::FactorAnswer;
-use balance::refusal_number;
-use screening::report_job;
+use refusals::refusal_number;
+use report::report_job;
 ghost use mathlib.Core.Path.{_≡_};
 ghost use lib.ListN.{length};
 ghost use Rattle.balance.specs.Factors.{factorAnswer, factorList};
-ghost use Rattle.screening.specs.Report.{reportOf};
+ghost use Rattle.report.specs.Report.{reportOf};
+ghost use Rattle.text.specs.Lent.{lengthWritten, bytesWritten};
 ghost use Rattle.jelmorand.specs.FactorCode.{factorCode};
-ghost use Rattle.jelmorand.specs.ReportBytes.{lengthWritten, bytesWritten};
 
 // A refusal is answered by this and its number, so that no count can be taken for one.
 const REFUSED: u32 = 256;
@@ -31,11 +31,5 @@ pub extern "C" fn jelmorand_report(job: &[u8], out: &mut [u8]) -> u64
     ensures answered { λ r. ⌜ r ≡ lengthWritten (reportOf (now (job .entry))) (length (now (out .entry))) ⌝ }
     ensures written { λ _. ⌜ now (out .exit) ≡ bytesWritten (reportOf (now (job .entry))) (now (out .entry)) ⌝ }
 {
-    let text = report_job(job);
-    let bytes = text.bytes;
-    let len = text.len;
-    if out.len() < len {
-        return 0;
-    }
-    bytes::copy(&bytes[..len], out) as u64
+    report_job(job, out) as u64
 }

@@ -1,9 +1,7 @@
 // The Po-218 column of source 000's radon table A-3, worked out by the factor call and printed as the table prints it.
+use balance::GRAINS;
 use libc::STDOUT_FILENO;
 ghost use Prim.Native.Nat.{_<_, _^_};
-
-// G, the parent's factor in grains.
-const GRAINS: u64 = 1_099_511_627_776;
 
 // The table's rates, in hundredths of an air change per hour.
 const RATES: [u32; 74] = [

@@ -1,30 +1,29 @@
 -- The rows of document 01 that are marked for the check: one list, one computation over the definitions.
-use Prim.Native.Nat.{ℕ, _+_, _/_}
+use Prim.Native.Nat.{ℕ, _/_}
 use mathlib.Core.Bool.{Bool, true, false, _&&_}
 use mathlib.Core.Path.{_≡_, refl}
 use mathlib.Core.List.{List, [], _∷_}
 use lib.Dec.{eqb}
 use lib.ListN.{replicate, length}
-use Rattle.balance.specs.Book.{along}
-use Rattle.balance.specs.Grounds.{someBelow, someIn}
-use Rattle.balance.specs.Refusals.{bookTooShort, countOutOfRange, bookLengthWrong, headerInvalid, memberOutOfRange, feedOutOfRange, walk, occurrences, feedNotOnce, feedsMisplaced, feedNotFromLower, sharesOut, sharesOutTooHigh}
+use lib.Ieee.{odd, ofBits, binary64}
+use lib.Count.{trailingZeros}
+use Rattle.book.specs.Fields.{along}
+use Rattle.book.specs.Tests.{someBelow, someIn}
+use Rattle.book.specs.BookGrounds.{bookTooShort, countOutOfRange, bookLengthWrong, headerInvalid, memberOutOfRange, feedOutOfRange, walk, occurrences, feedNotOnce, feedsMisplaced, feedNotFromLower, sharesOut, sharesOutTooHigh}
 use Rattle.balance.specs.Balance.{G, reported}
 use Rattle.balance.specs.Factors.{factorAnswer, factorList, answerNumber}
+use Rattle.reading.specs.Reading.{amountOf, mediumOf, whole, wholeAnswer, readingUnusable, concentrationTooHigh, intakeAnswer}
+use Rattle.reading.specs.declared.amounts.Intake.{Intake}
+use Rattle.reading.specs.declared.amounts.Whole.{Whole}
 use Rattle.screening.specs.Exposure.{X, Y, residential, worker, exposureOutOfRange}
-use Rattle.screening.specs.Reading.{whole, throughMedium, concentration, readingUnusable, concentrationTooHigh}
-use Rattle.screening.specs.Refusals.{codeUnknown, attenuationOutOfRange}
+use Rattle.screening.specs.JobGrounds.{codeUnknown, attenuationOutOfRange}
 use Rattle.screening.specs.Verdict.{badness, sumBelow, level}
 use Rattle.screening.specs.WorkingLevels.{microLevels, workingLevels}
-use Rattle.screening.specs.Screening.{figuresOf, answerOf}
+use Rattle.screening.specs.Screening.{figuresAt, answerOf}
 use Rattle.screening.specs.declared.exposure.Exposure.{Exposure}
 use Rattle.screening.specs.declared.job.Outcome.{Outcome}
-use Rattle.screening.specs.declared.reading.Amount.{Amount}
-use Rattle.screening.specs.declared.reading.Medium.{Medium}
 use Rattle.screening.specs.declared.verdict.Verdict.{Verdict}
 use Rattle.screening.specs.declared.verdict.Verdict.the-variants.{Below, Close, Above}
-use lib.IntN.{pos, negsuc}
-use lib.Ieee.{fin, odd, ofBits}
-use lib.Count.{trailingZeros}
 use Rattle.rows.specs.Encoding.{member, feed, bookBytes, riskJob}
 
 -- K / 100: at rate 100 this half-life halves a factor.
@@ -53,22 +52,31 @@ alone = bookBytes 1000 (member 1 (1000 ∷ 0 ∷ 0 ∷ 0 ∷ 0 ∷ []) 0 ∷ [])
 abbrev daughterAtRisk : List ℕ
 daughterAtRisk = bookBytes 1000 (member 1 noCoefficients 0 ∷ member T′ (1000 ∷ 0 ∷ 0 ∷ 0 ∷ 0 ∷ []) 1 ∷ []) (feed 100000 0 0 ∷ [])
 
--- The bits of the f64s 1.0 and 3.0: 37,000 and 111,000 mBq/m³.
+-- The bits of f64s, as a job has them: 0.5, 1.0, 3.0, 4.0 and 100.0.
+abbrev half : ℕ
+half = 0x3fe0000000000000
+
 abbrev one : ℕ
 one = 0x3ff0000000000000
 
 abbrev three : ℕ
 three = 0x4008000000000000
 
+abbrev four : ℕ
+four = 0x4010000000000000
+
+abbrev hundred : ℕ
+hundred = 0x4059000000000000
+
 pub data Row : Type 0 where
   -- the factor call at a rate on a book leaves these factors
   factors : ℕ → List ℕ → List ℕ → Row
   -- an exposure has this X and this Y
   exposed : Exposure → ℕ → ℕ → Row
-  -- an amount is so many mBq/m³
-  reads : Amount → ℕ → Row
-  -- so many mBq/m³ in a medium, at an attenuation, are this concentration
-  attenuated : Medium → ℕ → ℕ → ℕ → Row
+  -- in a unit, an f64 of these bits is so many mBq/m³
+  reads : ℕ → ℕ → ℕ → Row
+  -- in a medium, a unit and at an attenuation, a reading of these bits without uncertainty is this concentration
+  measures : ℕ → ℕ → ℕ → ℕ → ℕ → Row
   -- at C, Fm and W there are so many micro working levels
   working : ℕ → ℕ → ℕ → ℕ → Row
   -- a job is screened with this verdict
@@ -81,6 +89,16 @@ sameList [] [] = true
 sameList [] (y ∷ ys) = false
 sameList (x ∷ xs) [] = false
 sameList (x ∷ xs) (y ∷ ys) = eqb x y && sameList xs ys
+
+numberIs : Whole → ℕ → Bool
+numberIs (Whole.Number m) n = eqb m n
+numberIs Whole.TooLarge n = false
+numberIs Whole.Unusable n = false
+
+concentrationIs : Intake → ℕ → Bool
+concentrationIs (Intake.Concentration c) n = eqb c n
+concentrationIs Intake.TooHigh n = false
+concentrationIs Intake.Unusable n = false
 
 verdictIs : Outcome → Verdict → Bool
 verdictIs (Outcome.Screened figures) v = eqb (badness (figures .verdict)) (badness v)
@@ -95,8 +113,9 @@ holds (factors v book expected) =
     eqb (answerNumber (factorAnswer v book (length expected))) (length expected)
     && sameList (factorList v book (replicate (length expected) 0)) expected
 holds (exposed e x y) = eqb (X e) x && eqb (Y e) y
-holds (reads amount n) = eqb (whole amount) n
-holds (attenuated medium af n c) = eqb (throughMedium medium af n) c
+holds (reads unit bits n) = numberIs (wholeAnswer (amountOf unit (ofBits binary64 bits))) n
+holds (measures medium unit af bits C) =
+    concentrationIs (intakeAnswer unit (mediumOf medium) af (record { value = ofBits binary64 bits; uncertainty = ofBits binary64 0 })) C
 holds (working C Fm W n) = eqb (microLevels C Fm W) n
 holds (judged job v) = verdictIs (answerOf job .outcome) v
 holds (levelled job n) = levelIs (answerOf job .outcome) n
@@ -115,11 +134,10 @@ marked =
     ∷ factors 100 diamond (G ∷ G / 4 ∷ G / 4 ∷ G / 4 ∷ [])
     ∷ exposed residential 3864000 218400
     ∷ exposed worker 3000000 50000
-    ∷ reads (Amount.PicocuriesPerLitre (fin false 1 (pos 2))) 148000
-    ∷ reads (Amount.PicocuriesPerCubicMetre (fin false 1 (negsuc 0))) 19
-    ∷ reads (Amount.PicocuriesPerLitre (fin false 25 (pos 2))) 3700000
-    ∷ attenuated Medium.Groundwater 1000 3700000 16058
-    ∷ attenuated Medium.SoilGas 30000 148000 4440
+    ∷ reads 0 four 148000
+    ∷ reads 1 half 19
+    ∷ measures 2 0 1000 hundred 16058
+    ∷ measures 1 0 30000 four 4440
     ∷ working 148000 400000 1000 16000
     ∷ judged (riskJob 0 1610 one residential alone) Below
     ∷ judged (riskJob 0 1609 one residential alone) Above
@@ -130,5 +148,5 @@ marked =
     ∷ []
 
 pub every-marked-row-holds : allHold marked ≡ true
-unfolding marked allHold holds sameList along someBelow someIn bookTooShort countOutOfRange bookLengthWrong headerInvalid memberOutOfRange feedOutOfRange walk occurrences feedNotOnce feedsMisplaced feedNotFromLower sharesOut sharesOutTooHigh reported exposureOutOfRange whole readingUnusable concentrationTooHigh codeUnknown attenuationOutOfRange sumBelow level workingLevels figuresOf verdictIs levelIs odd ofBits trailingZeros
+unfolding marked allHold holds sameList along someBelow someIn bookTooShort countOutOfRange bookLengthWrong headerInvalid memberOutOfRange feedOutOfRange walk occurrences feedNotOnce feedsMisplaced feedNotFromLower sharesOut sharesOutTooHigh reported exposureOutOfRange whole readingUnusable concentrationTooHigh codeUnknown attenuationOutOfRange sumBelow level workingLevels figuresAt numberIs concentrationIs verdictIs levelIs odd ofBits trailingZeros
 every-marked-row-holds = refl

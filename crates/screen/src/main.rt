@@ -2,9 +2,11 @@
 use libc::STDERR_FILENO;
 use libc::STDIN_FILENO;
 use libc::STDOUT_FILENO;
+use report::LONGEST_JOB;
+use report::REPORT_ROOM;
 
-// One byte more than the longest job that can be accepted: 48, and a book of 16 members and 64 feeds.
-const ENOUGH: usize = 1081;
+// One byte more than the longest job that can be accepted: a longer input has the same report as its first bytes.
+const ENOUGH: usize = LONGEST_JOB + 1;
 
 fn main() {
     let mut input = [0u8; ENOUGH];
@@ -15,8 +17,7 @@ fn main() {
 }
 
 fn write_report(job: &[u8]) -> bool {
-    let text = screening::report_job(job);
-    let bytes = text.bytes;
-    let len = text.len;
-    io::write_all(STDOUT_FILENO, &bytes[..len])
+    let mut room = [0u8; REPORT_ROOM];
+    let n = report::whole_report(job, &mut room);
+    io::write_all(STDOUT_FILENO, &room[..n])
 }

@@ -4,7 +4,7 @@ use Prim.Native.Nat.{ℕ, _+_, _*_, _%_, _≤_, _<_}
 use native.Mathlib.Nat.{lt-of-le-of-lt, mul-le-mul, add-le-add}
 use mathlib.Core.Path.{_≡_, refl}
 use Rattle.wide.specs.Value.{modulus}
-use Rattle.wide.proofs.Exact.{exact}
+use Rattle.wide.proofs.Results.{exact}
 
 pub record Held (r whole top : ℕ) : Type 0 where
   pub is : r ≡ whole

@@ -1,6 +1,6 @@
 -- The screening level is the largest concentration up to the cap whose verdict is 'below'.
 -- High is the concentration times its value at 1, so 'below' asks for a product of at most B, and a capped quotient is the largest such factor.
-use Prim.Native.Nat.{ℕ, _*_, _/_, _≤_, min}
+use Prim.Native.Nat.{ℕ, _*_, _/_, min}
 use native.Mathlib.Nat.{le-refl, le-of-eq, le-trans, pos-of-ne-zero}
 use native.Mathlib.Omega.{arith}
 use mathlib.Core.Path.{_≡_, refl, ap, sym}
@@ -11,7 +11,7 @@ use Rattle.wide.specs.Quotient.{LargestQuotient}
 use Rattle.wide.proofs.LargestFactor.{min-is}
 use Rattle.screening.specs.Verdict.{Assessment, low, high, cappedQuotient, maxLevel, level}
 use Rattle.screening.specs.Promises.{LevelPromise}
-use Rattle.screening.proofs.Outcomes.{says, below-if}
+use Rattle.screening.proofs.Verdicts.{says, below-if}
 
 by-divisor : (cap a b : ℕ) (t : Bool) → eqb b 0 ≡ t → LargestQuotient a b cap (cond t cap (min cap (a / b)))
 by-divisor cap a b true e =
@@ -27,11 +27,11 @@ high-scales a C = omega arith
 pub level-promise : (a : Assessment) → LevelPromise a
 unfolding level
 level-promise a =
-    let best = capped-quotient-largest maxLevel (a .limit) (high a 1) in
+    let best = capped-quotient-largest maxLevel (a .bound) (high a 1) in
     record {
       within = best .within;
-      is-below = below-if (low a (level a)) (high a (level a)) (a .limit) (le-trans (le-of-eq (high-scales a (level a))) (best .fits));
+      is-below = below-if (low a (level a)) (high a (level a)) (a .bound) (le-trans (le-of-eq (high-scales a (level a))) (best .fits));
       largest =
           λ C l e.
-          best .largest C l (le-trans (le-of-eq (sym (high-scales a C))) (says (low a C) (high a C) (a .limit) e));
+          best .largest C l (le-trans (le-of-eq (sym (high-scales a C))) (says (low a C) (high a C) (a .bound) e));
     }

@@ -1,48 +1,49 @@
--- A sum over the members, added up in limbs: terms of at most 2^113, at most sixteen of them, stay below 2^117, so no addition wraps.
-use Prim.Native.Nat.{ℕ, suc, _+_, _*_, _%_, _^_, _≤_, _<_, min}
-use native.Mathlib.Nat.{le-trans, mul-le-mul, mul-le-mul-left, mul-le-mul-right, add-le-add, min-le-right}
+-- A sum over the members, added up in limbs: terms of at most 2^113, at most sixteen of them, stay within 2^117, so no addition wraps.
+use Prim.Native.Nat.{ℕ, suc, _+_, _*_, _%_, _^_, _≤_, _<_}
+use native.Mathlib.Nat.{le-trans, lt-of-le-of-lt, mul-le-mul-right}
 use native.Mathlib.Numerals.{add-one}
 use native.Mathlib.Omega.{arith}
-use mathlib.Core.Path.{_≡_}
+use mathlib.Core.Path.{_≡_, ap, _∙_}
 use lib.Dec.{lit<, lit≤}
-use Rattle.balance.specs.Limits.{maxMembers}
-use Rattle.balance.specs.Balance.{G}
+use Rattle.book.specs.Limits.{maxMembers}
 use Rattle.wide.specs.Value.{modulus}
 use Rattle.screening.specs.Verdict.{sumBelow}
-use Rattle.screening.proofs.Sums.{sum-at-most}
 use Rattle.screening.proofs.Held.{Held, sum-held}
 
-abbrev pub termTop : ℕ
+-- Shut, so that a product with it does not pass the bound that omega has for numbers.
+unfoldable pub termTop : ℕ
 termTop = 2 ^ 113
 
 abbrev pub sumTop : ℕ
 sumTop = 2 ^ 117
 
-sum-fits : (n : ℕ) (f : ℕ → ℕ) → ((i : ℕ) → f i ≤ termTop) → n ≤ maxMembers → sumBelow n f ≤ sumTop
-sum-fits n f each few = le-trans (sum-at-most n termTop (λ i l. each i)) (mul-le-mul-right termTop few)
-
-pub no-terms : (f : ℕ → ℕ) {total : ℕ} → total ≡ 0 → Held total (sumBelow 0 f) sumTop
+pub no-terms : (f : ℕ → ℕ) {total : ℕ} → total ≡ 0 → Held total (sumBelow 0 f) (0 * termTop)
 unfolding sumBelow
 no-terms f e = record { is = e; within = omega arith }
 
+one-more : (n top : ℕ) → n * top + top ≡ suc n * top
+one-more n top = omega arith
+
 pub next-term :
     (n : ℕ) (f : ℕ → ℕ) {total term next : ℕ}
-    → ((i : ℕ) → f i ≤ termTop)
     → n < maxMembers
-    → Held total (sumBelow n f) sumTop
+    → Held total (sumBelow n f) (n * termTop)
     → term ≡ f n
+    → term ≤ 2 ^ 113
     → next ≡ (total + term) % modulus
-    → Held next (sumBelow (n + 1) f) sumTop
-unfolding sumBelow
-next-term n f {total} {term} each few so-far one e =
-    let more : Held term (f n) termTop = record { is = one; within = each n } in
-    rw add-one (record { is = sum-held e so-far more (lit< tt) .is; within = sum-fits (suc n) f each few })
+    → Held next (sumBelow (n + 1) f) ((n + 1) * termTop)
+unfolding sumBelow termTop
+next-term n f {total} {term} few so-far one small e =
+    let more : Held term (f n) termTop = record { is = one; within = rw one at small } in
+    let fits : n * termTop + termTop < modulus =
+    rw (one-more n termTop) (lt-of-le-of-lt (mul-le-mul-right termTop few) (lit< tt))
+    in
+    rw (add-one, ← one-more n termTop) (sum-held e so-far more fits)
 
--- a weight of 32-bit numbers times a factor of at most G
-pub weighted-term : (x y h s f : ℕ) → x ≤ 2 ^ 32 → y ≤ 2 ^ 32 → h ≤ 2 ^ 32 → s ≤ 2 ^ 32 → (365 * x * h + y * s) * min f G ≤ termTop
-weighted-term x y h s f lx ly lh ls =
-    le-trans (mul-le-mul (add-le-add (mul-le-mul (mul-le-mul-left 365 lx) lh) (mul-le-mul ly ls)) (min-le-right f G)) (lit≤ tt)
-
--- an alpha energy weight times a factor
-pub alpha-term : (w f : ℕ) → w ≤ 2 ^ 32 → f ≤ 2 ^ 64 → w * f ≤ termTop
-alpha-term w f lw lf = le-trans (mul-le-mul lw lf) (lit≤ tt)
+-- After all the terms.
+pub all-terms :
+    (f : ℕ → ℕ) {count total n : ℕ} → count ≤ maxMembers → n ≡ count → Held total (sumBelow n f) (n * termTop) →
+    (total ≡ sumBelow count f) × (total ≤ sumTop)
+unfolding termTop
+all-terms f few e whole =
+    (whole .is ∙ ap (λ k. sumBelow k f) e, rw (whole .is) (le-trans (whole .within) (rw e (le-trans (mul-le-mul-right termTop few) (lit≤ tt)))))

@@ -2,6 +2,8 @@
 use Prim.Native.Nat.{ℕ, _+_, _*_}
 use mathlib.Core.Bool.{Bool, cond, _||_}
 use lib.Dec.{ltb, eqb}
+use Rattle.refusals.specs.declared.Checked.{Checked}
+use Rattle.refusals.specs.declared.Refusal.{Refusal}
 use Rattle.screening.specs.declared.exposure.Group.{Group}
 use Rattle.screening.specs.declared.exposure.Exposure.{Exposure}
 use Rattle.screening.specs.declared.exposure.ExposureAnswer.{ExposureAnswer}
@@ -30,13 +32,30 @@ residential = record { child = group 350 6 24 10; adult = group 350 20 24 20 }
 abbrev pub worker : Exposure
 worker = record { child = group 0 0 0 0; adult = group 250 25 8 60 }
 
--- A group has EF over 366, ED over 100, ET over 24 or IRA over 100.
+abbrev pub maxDays : ℕ
+maxDays = 366
+
+abbrev pub maxYears : ℕ
+maxYears = 100
+
+abbrev pub maxHours : ℕ
+maxHours = 24
+
+abbrev pub maxBreathing : ℕ
+maxBreathing = 100
+
+-- 6. A group has EF over 366, ED over 100, ET over 24 or IRA over 100, or Z is 0.
 abbrev pub groupOutOfRange : Group → Bool
-groupOutOfRange g = ltb 366 (g .days) || ltb 100 (g .years) || ltb 24 (g .hours) || ltb 100 (g .breathing)
+groupOutOfRange g = ltb maxDays (g .days) || ltb maxYears (g .years) || ltb maxHours (g .hours) || ltb maxBreathing (g .breathing)
 
 unfoldable pub exposureOutOfRange : Exposure → Bool
 exposureOutOfRange e = groupOutOfRange (e .child) || groupOutOfRange (e .adult) || eqb (Z e) 0
 
--- What the constructor of an exposure answers: ground 6, or the exposure.
+-- What the constructor of an exposure answers.
 abbrev pub exposureAnswer : Exposure → ExposureAnswer
 exposureAnswer e = cond (exposureOutOfRange e) ExposureAnswer.OutOfRange (ExposureAnswer.Within e)
+
+-- What such an answer says of the list of grounds.
+abbrev pub exposureChecked : ExposureAnswer → Checked
+exposureChecked (ExposureAnswer.Within e) = Checked.Passed
+exposureChecked ExposureAnswer.OutOfRange = Checked.Refused Refusal.ExposureOutOfRange

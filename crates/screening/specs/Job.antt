@@ -2,13 +2,19 @@
 use Prim.Native.Nat.{ℕ, _+_}
 use mathlib.Core.List.{List}
 use lib.ListN.{drop}
-use lib.Ieee.{Float, ofBits, binary64}
-use Rattle.balance.specs.Bytes.{u8At, u16At, u32At, u64At}
+use lib.Ieee.{ofBits, binary64}
+use Rattle.book.specs.Bytes.{u8At, u16At, u32At, u64At}
+use Rattle.reading.specs.Reading.{mediumOf, concentration, intakeAnswer}
+use Rattle.reading.specs.declared.amounts.Intake.{Intake}
+use Rattle.reading.specs.declared.amounts.Medium.{Medium}
+use Rattle.reading.specs.declared.amounts.Reading.{Reading}
 use Rattle.screening.specs.declared.exposure.Group.{Group}
 use Rattle.screening.specs.declared.exposure.Exposure.{Exposure}
-use Rattle.screening.specs.declared.reading.Reading.{Reading}
 
 -- v, in hundredths of an air change per hour.
+abbrev pub rateLength : ℕ
+rateLength = 4
+
 abbrev pub rate : List ℕ → ℕ
 rate job = u32At job 0
 
@@ -37,6 +43,17 @@ attenuation job = u32At job 12
 
 abbrev pub readingOf : List ℕ → Reading
 readingOf job = record { value = ofBits binary64 (u64At job 16); uncertainty = ofBits binary64 (u64At job 24) }
+
+-- What a definition says of the job's reading, in its unit and its medium, with its attenuation.
+abbrev pub forReading : {A : Type 0} → (ℕ → Medium → ℕ → Reading → A) → List ℕ → A
+forReading says job = says (unit job) (mediumOf (medium job)) (attenuation job) (readingOf job)
+
+-- C, and what the intake of the reading answers.
+abbrev pub concentrationOf : List ℕ → ℕ
+concentrationOf job = forReading concentration job
+
+abbrev pub intakeOf : List ℕ → Intake
+intakeOf job = forReading intakeAnswer job
 
 -- A group is four u16: EF, ED, ET, IRA.
 abbrev pub groupAt : List ℕ → ℕ → Group

@@ -1,10 +1,8 @@
 pub mod Job
 pub mod Exposure
-pub mod Reading
-pub mod Refusals
+pub mod JobGrounds
 pub mod Verdict
 pub mod WorkingLevels
 pub mod Screening
-pub mod Report
 pub mod Promises
 pub mod Private

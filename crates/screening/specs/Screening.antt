@@ -1,59 +1,66 @@
 -- The answer to a whole job.
 use Prim.Native.Nat.{ℕ}
-use mathlib.Core.List.{List, [], _∷_, _++_}
-use lib.ListN.{length, getD, drop, replicate}
-use Rattle.balance.specs.Limits.{maxMembers}
-use Rattle.balance.specs.Book.{members, workingLevelDivisor, coefficient}
-use Rattle.balance.specs.Factors.{factorsAt}
-use Rattle.screening.specs.Job.{rate, kind, medium, unit, target, attenuation, readingOf, exposureOf, bookOf}
-use Rattle.screening.specs.Reading.{mediumOf, concentration}
-use Rattle.screening.specs.Refusals.{checkedJob}
-use Rattle.screening.specs.Verdict.{Assessment, kindOf, weightOf, bound, verdictAt, level}
+use mathlib.Core.List.{List}
+use lib.ListN.{replicate}
+use Rattle.refusals.specs.declared.Checked.{Checked}
+use Rattle.refusals.specs.declared.Refusal.{Refusal}
+use Rattle.book.specs.Limits.{maxMembers}
+use Rattle.book.specs.Fields.{members, workingLevelDivisor, coefficient}
+use Rattle.balance.specs.Factors.{factorAt, factorList}
+use Rattle.screening.specs.Job.{rate, kind, target, exposureOf, concentrationOf, bookOf}
+use Rattle.screening.specs.Exposure.{X, Y, Z}
+use Rattle.screening.specs.JobGrounds.{checkedJob}
+use Rattle.screening.specs.Verdict.{Assessment, kindOf, weightOf, boundOf, verdictAt, level}
 use Rattle.screening.specs.WorkingLevels.{alphaSum, workingLevels}
 use Rattle.screening.specs.declared.job.Answer.{Answer}
 use Rattle.screening.specs.declared.job.Figures.{Figures}
 use Rattle.screening.specs.declared.job.Outcome.{Outcome}
-use Rattle.screening.specs.declared.job.JobChecked.{JobChecked}
+use Rattle.screening.specs.declared.verdict.Criterion.{Criterion}
 
--- C.
-abbrev pub concentrationOf : List ℕ → ℕ
-concentrationOf job = concentration (unit job) (mediumOf (medium job)) (attenuation job) (readingOf job)
+-- What a job's room is judged by.
+abbrev pub criterionOf : List ℕ → Criterion
+criterionOf job =
+    record { kind = kindOf (kind job); x = X (exposureOf job); y = Y (exposureOf job); z = Z (exposureOf job); target = target job }
 
--- A member's reported factor at a rate.
-abbrev pub factorAt : List ℕ → ℕ → ℕ → ℕ
-factorAt job v i = getD (factorsAt (bookOf job) v) i 0
+-- What the verdict on a book is reached on, with the coefficients in use, at a rate.
+abbrev pub assessmentAt : Criterion → List ℕ → (ℕ → ℕ → ℕ) → ℕ → Assessment
+assessmentAt by book coefficient v =
+    record { count = members book; weight = weightOf by coefficient; factor = factorAt book v; bound = boundOf by }
 
--- What the verdict on a job is reached on, at a rate; its own rate is `rate job`.
-abbrev pub assessmentAt : List ℕ → ℕ → Assessment
-assessmentAt job v =
+-- The sum over i ≥ 1 of w × factor, at a rate.
+abbrev pub alphaAt : List ℕ → (ℕ → ℕ → ℕ) → ℕ → ℕ
+alphaAt book coefficient v = alphaSum (members book) coefficient (factorAt book v)
+
+-- At a rate and a concentration.
+unfoldable pub figuresAt : Criterion → List ℕ → (ℕ → ℕ → ℕ) → ℕ → ℕ → Figures
+figuresAt by book coefficient v C =
     record {
-      count = members (bookOf job);
-      weight = weightOf (kindOf (kind job)) (exposureOf job) (coefficient (bookOf job));
-      factor = factorAt job v;
-      limit = bound (kindOf (kind job)) (exposureOf job) (target job);
+      concentration = C;
+      verdict = verdictAt (assessmentAt by book coefficient v) C;
+      level = level (assessmentAt by book coefficient v);
+      working = workingLevels (alphaAt book coefficient v) (alphaAt book coefficient 0) C (workingLevelDivisor book);
     }
 
-abbrev pub alphaAt : List ℕ → ℕ → ℕ
-alphaAt job v = alphaSum (members (bookOf job)) (coefficient (bookOf job)) (factorAt job v)
-
-unfoldable pub figuresOf : List ℕ → Figures
-figuresOf job =
+-- The factors stand as the factor call leaves them in a list of zeros.
+abbrev pub screenedAt : Criterion → List ℕ → (ℕ → ℕ → ℕ) → ℕ → ℕ → Answer
+screenedAt by book coefficient v C =
     record {
-      concentration = concentrationOf job;
-      verdict = verdictAt (assessmentAt job (rate job)) (concentrationOf job);
-      level = level (assessmentAt job (rate job));
-      working = workingLevels (alphaAt job (rate job)) (alphaAt job 0) (concentrationOf job) (workingLevelDivisor (bookOf job));
+      outcome = Outcome.Screened (figuresAt by book coefficient v C);
+      factors = factorList v book (replicate maxMembers 0);
+      count = members book;
     }
+
+abbrev pub refusedWith : Refusal → Answer
+refusedWith refusal = record { outcome = Outcome.Refused refusal; factors = replicate maxMembers 0; count = 0 }
 
 -- An accepted job has its figures and factors; a refusal returns the refusal alone.
-abbrev pub answerFor : JobChecked → List ℕ → Answer
-answerFor JobChecked.Passed job =
-    record {
-      outcome = Outcome.Screened (figuresOf job);
-      factors = factorsAt (bookOf job) (rate job) ++ drop (length (factorsAt (bookOf job) (rate job))) (replicate maxMembers 0);
-      count = members (bookOf job);
-    }
-answerFor (JobChecked.Refused refusal) job = record { outcome = Outcome.Refused refusal; factors = replicate maxMembers 0; count = 0 }
+abbrev pub answerFor : Checked → List ℕ → List ℕ → Answer
+answerFor Checked.Passed job book = screenedAt (criterionOf job) book (coefficient book) (rate job) (concentrationOf job)
+answerFor (Checked.Refused refusal) job book = refusedWith refusal
 
+abbrev pub answerWith : List ℕ → List ℕ → Answer
+answerWith job book = answerFor (checkedJob job book) job book
+
+-- The chain book follows the job.
 abbrev pub answerOf : List ℕ → Answer
-answerOf job = answerFor (checkedJob job) job
+answerOf job = answerWith job (bookOf job)

@@ -1,11 +1,9 @@
 -- The verdict on risk or yearly dose, and the screening level (document 01, "Verdict").
 use Prim.Native.Nat.{ℕ, zero, suc, _+_, _*_, _/_, _^_, min}
-use mathlib.Core.Bool.{Bool, true, false, cond}
-use mathlib.Core.List.{List}
+use mathlib.Core.Bool.{cond}
 use lib.Dec.{leb, eqb}
 use Rattle.balance.specs.Balance.{G}
-use Rattle.screening.specs.Exposure.{X, Y, Z}
-use Rattle.screening.specs.declared.exposure.Exposure.{Exposure}
+use Rattle.screening.specs.declared.verdict.Criterion.{Criterion}
 use Rattle.screening.specs.declared.verdict.Kind.{Kind}
 use Rattle.screening.specs.declared.verdict.Verdict.{Verdict}
 use Rattle.screening.specs.declared.verdict.Verdict.the-variants.{Below, Close, Above}
@@ -29,22 +27,25 @@ abbrev pub submersion : Kind → ℕ
 submersion Kind.Risk = 1
 submersion Kind.Dose = 3
 
+-- A room is judged by a kind, X, Y, Z and a target.
 -- q(i) = 365·X·h + Y·s, of the coefficients in use.
-abbrev pub weightOf : Kind → Exposure → (ℕ → ℕ → ℕ) → ℕ → ℕ
-weightOf kind exposure coefficient i =
-    365 * X exposure * coefficient i (inhalation kind) + Y exposure * coefficient i (submersion kind)
+abbrev pub weightOf : Criterion → (ℕ → ℕ → ℕ) → ℕ → ℕ
+weightOf by coefficient i = 365 * by .x * coefficient i (inhalation (by .kind)) + by .y * coefficient i (submersion (by .kind))
 
 -- B.
-abbrev pub bound : Kind → Exposure → ℕ → ℕ
-bound Kind.Risk exposure target = target * 37 * 8760 * 10 ^ 8 * G
-bound Kind.Dose exposure target = target * Z exposure * 37 * 8760 * 10 ^ 7 * G
+abbrev pub bound : Kind → ℕ → ℕ → ℕ
+bound Kind.Risk Z target = target * 37 * 8760 * 10 ^ 8 * G
+bound Kind.Dose Z target = target * Z * 37 * 8760 * 10 ^ 7 * G
+
+abbrev pub boundOf : Criterion → ℕ
+boundOf by = bound (by .kind) (by .z) (by .target)
 
 -- What a verdict is reached on: so many members, the weight q and the reported factor of each, in grains, and B.
 pub record Assessment : Type 0 where
   pub count : ℕ
   pub weight : ℕ → ℕ
   pub factor : ℕ → ℕ
-  pub limit : ℕ
+  pub bound : ℕ
 
 abbrev pub raised : Assessment → ℕ → ℕ
 raised a i = min (a .factor i + 2 * i) G
@@ -66,7 +67,7 @@ abbrev pub verdictOf : ℕ → ℕ → ℕ → Verdict
 verdictOf L H B = cond (leb H B) Below (cond (leb L B) Close Above)
 
 abbrev pub verdictAt : Assessment → ℕ → Verdict
-verdictAt a C = verdictOf (low a C) (high a C) (a .limit)
+verdictAt a C = verdictOf (low a C) (high a C) (a .bound)
 
 -- From best to worst.
 abbrev pub badness : Verdict → ℕ
@@ -83,4 +84,4 @@ abbrev pub maxLevel : ℕ
 maxLevel = 4000000000
 
 unfoldable pub level : Assessment → ℕ
-level a = cappedQuotient maxLevel (a .limit) (high a 1)
+level a = cappedQuotient maxLevel (a .bound) (high a 1)

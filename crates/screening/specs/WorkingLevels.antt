@@ -1,5 +1,5 @@
 -- The equilibrium factor and the working levels (document 01, "Working levels").
-use Prim.Native.Nat.{ℕ, suc, _+_, _*_, _-_, _/_}
+use Prim.Native.Nat.{ℕ, suc, _*_, _-_, _/_}
 use mathlib.Core.Bool.{cond}
 use lib.Dec.{eqb}
 use Rattle.screening.specs.Verdict.{sumBelow}

@@ -2,16 +2,7 @@
 ghost use mathlib.Core.Path.{_≡_};
 ghost use mathlib.Core.Bool.{false};
 ghost use Prim.Native.Nat.{_*_, _≤_};
-ghost use Rattle.screening.specs.Exposure.{
-  X,
-  Y,
-  Z,
-  groupOutOfRange,
-  exposureOutOfRange,
-  exposureAnswer,
-  residential,
-  worker,
-};
+ghost use Rattle.screening.specs.Exposure.{X, Y, Z, groupOutOfRange, exposureOutOfRange, exposureAnswer, residential, worker, maxDays, maxYears, maxHours, maxBreathing};
 
 const MAX_DAYS: u16 = 366;
 
@@ -118,7 +109,7 @@ fn group_out_of_range(group: Group) -> bool
 fn group_hours(group: Group) -> u64
     requires { ⌜ groupOutOfRange group ≡ false ⌝ }
     ensures value { λ r. ⌜ r ≡ group .days * group .years * group .hours ⌝ }
-    ensures range { λ r. ⌜ r ≤ 878400 ⌝ }
+    ensures range { λ r. ⌜ r ≤ maxDays * maxYears * maxHours ⌝ }
 {
     group.days as u64 * group.years as u64 * group.hours as u64
 }
@@ -127,7 +118,7 @@ fn group_hours(group: Group) -> u64
 fn group_air(group: Group) -> u64
     requires { ⌜ groupOutOfRange group ≡ false ⌝ }
     ensures value { λ r. ⌜ r ≡ group .days * group .years * group .hours * group .breathing ⌝ }
-    ensures range { λ r. ⌜ r ≤ 87840000 ⌝ }
+    ensures range { λ r. ⌜ r ≤ maxDays * maxYears * maxHours * maxBreathing ⌝ }
 {
     group_hours(group) * group.breathing as u64
 }
@@ -136,7 +127,7 @@ fn group_air(group: Group) -> u64
 pub(crate) fn x(exposure: Exposure) -> u64
     requires { ⌜ exposureOutOfRange exposure ≡ false ⌝ }
     ensures value { λ r. ⌜ r ≡ X exposure ⌝ }
-    ensures range { λ r. ⌜ r ≤ 175680000 ⌝ }
+    ensures range { λ r. ⌜ r ≤ 2 * (maxDays * maxYears * maxHours * maxBreathing) ⌝ }
 {
     group_air(exposure.child) + group_air(exposure.adult)
 }
@@ -144,7 +135,7 @@ pub(crate) fn x(exposure: Exposure) -> u64
 pub(crate) fn y(exposure: Exposure) -> u64
     requires { ⌜ exposureOutOfRange exposure ≡ false ⌝ }
     ensures value { λ r. ⌜ r ≡ Y exposure ⌝ }
-    ensures range { λ r. ⌜ r ≤ 1756800 ⌝ }
+    ensures range { λ r. ⌜ r ≤ 2 * (maxDays * maxYears * maxHours) ⌝ }
 {
     group_hours(exposure.child) + group_hours(exposure.adult)
 }
@@ -152,7 +143,7 @@ pub(crate) fn y(exposure: Exposure) -> u64
 pub(crate) fn z(exposure: Exposure) -> u64
     requires { ⌜ exposureOutOfRange exposure ≡ false ⌝ }
     ensures value { λ r. ⌜ r ≡ Z exposure ⌝ }
-    ensures range { λ r. ⌜ (1 ≤ r) × (r ≤ 200) ⌝ }
+    ensures range { λ r. ⌜ (1 ≤ r) × (r ≤ 2 * maxYears) ⌝ }
 {
     exposure.child.years as u64 + exposure.adult.years as u64
 }

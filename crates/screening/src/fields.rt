@@ -1,33 +1,65 @@
 // The fields of a job; past the end a byte reads as 0.
-use crate::binary64::bits_unusable;
-use crate::binary64::float;
 use crate::exposure::Exposure;
 use crate::exposure::Group;
-use crate::intake::medium;
-use crate::reading::Medium;
-use crate::reading::Reading;
+use crate::exposure::x;
+use crate::exposure::y;
+use crate::exposure::z;
+use crate::verdict::Criterion;
 use crate::verdict::Kind;
-use balance::u8_at;
-use balance::u16_at;
-use balance::u32_at;
-use balance::u64_at;
+use book::u8_at;
+use book::u16_at;
+use book::u32_at;
+use book::u64_at;
+use reading::Medium;
+use reading::Reading;
+use reading::bits_unusable;
+use reading::float;
+use reading::medium;
 ghost use mathlib.Core.Path.{_≡_};
 ghost use mathlib.Core.Bool.{false};
 ghost use Prim.Native.Nat.{_≤_};
+ghost use Rattle.reading.specs.Reading.{mediumOf, readingUnusable};
 ghost use Rattle.screening.specs.Job.{rate, kind, medium, unit, zeroByte, target, attenuation, readingOf, groupAt, exposureOf};
-ghost use Rattle.screening.specs.Reading.{mediumOf, readingUnusable};
+ghost use Rattle.screening.specs.Exposure.{exposureOutOfRange};
 ghost use Rattle.screening.specs.Verdict.{kindOf};
+ghost use Rattle.screening.specs.Screening.{criterionOf};
+
+// Where the fields stand, as specs/Job.antt has them.
+const RATE: u32 = 0;
+
+const KIND: u32 = 4;
+
+const MEDIUM: u32 = 5;
+
+const UNIT: u32 = 6;
+
+const ZERO: u32 = 7;
+
+const TARGET: u32 = 8;
+
+const ATTENUATION: u32 = 12;
+
+const VALUE: u32 = 16;
+
+const UNCERTAINTY: u32 = 24;
+
+const CHILD: u32 = 32;
+
+const ADULT: u32 = 40;
+
+// The chain book follows the job.
+pub const JOB_LENGTH: usize = 48;
 
 pub(crate) fn rate_of(job: &[u8]) -> u32
     ensures { λ r. ⌜ r ≡ rate (now (job .entry)) ⌝ }
 {
-    u32_at(job, 0) as u32
+    u32_at(job, RATE) as u32
 }
 
 pub(crate) fn kind_code(job: &[u8]) -> u8
     ensures { λ r. ⌜ r ≡ kind (now (job .entry)) ⌝ }
 {
-    u8_at(job, 4) as u8
+    u8_at(job, KIND) as u8
 }
 
 // Kinds 0, 1; any other code is taken as 1, and the checks refuse it.
@@ -43,7 +75,7 @@ pub(crate) fn kind_of(job: &[u8]) -> Kind
 pub(crate) fn medium_code(job: &[u8]) -> u8
     ensures { λ r. ⌜ r ≡ medium (now (job .entry)) ⌝ }
 {
-    u8_at(job, 5) as u8
+    u8_at(job, MEDIUM) as u8
 }
 
 pub(crate) fn medium_of(job: &[u8]) -> Medium
@@ -55,32 +87,32 @@ pub(crate) fn medium_of(job: &[u8]) -> Medium
 pub(crate) fn unit_code(job: &[u8]) -> u8
     ensures { λ r. ⌜ r ≡ unit (now (job .entry)) ⌝ }
 {
-    u8_at(job, 6) as u8
+    u8_at(job, UNIT) as u8
 }
 
 pub(crate) fn zero_byte(job: &[u8]) -> u8
     ensures { λ r. ⌜ r ≡ zeroByte (now (job .entry)) ⌝ }
 {
-    u8_at(job, 7) as u8
+    u8_at(job, ZERO) as u8
 }
 
 pub(crate) fn target_of(job: &[u8]) -> u32
     ensures { λ r. ⌜ r ≡ target (now (job .entry)) ⌝ }
 {
-    u32_at(job, 8) as u32
+    u32_at(job, TARGET) as u32
 }
 
 pub(crate) fn attenuation_of(job: &[u8]) -> u32
     ensures { λ r. ⌜ r ≡ attenuation (now (job .entry)) ⌝ }
 {
-    u32_at(job, 12) as u32
+    u32_at(job, ATTENUATION) as u32
 }
 
 // Ground 7. It is told from the patterns, since a NaN's cannot become an f64.
 pub(crate) fn reading_unusable(job: &[u8]) -> bool
     ensures { λ r. ⌜ r ≡ readingUnusable (readingOf (now (job .entry))) ⌝ }
 {
-    bits_unusable(u64_at(job, 16)) | bits_unusable(u64_at(job, 24))
+    bits_unusable(u64_at(job, VALUE)) | bits_unusable(u64_at(job, UNCERTAINTY))
 }
 
 pub(crate) fn reading_of(job: &[u8]) -> Reading
@@ -88,8 +120,8 @@ pub(crate) fn reading_of(job: &[u8]) -> Reading
     ensures { λ r. ⌜ r ≡ readingOf (now (job .entry)) ⌝ }
 {
     Reading {
-        value: float(u64_at(job, 16)),
-        uncertainty: float(u64_at(job, 24)),
+        value: float(u64_at(job, VALUE)),
+        uncertainty: float(u64_at(job, UNCERTAINTY)),
     }
 }
 
@@ -105,11 +137,27 @@ fn group_at(job: &[u8], at: u32) -> Group
     }
 }
 
+// What the room is judged by.
+pub(crate) fn criterion_of(job: &[u8]) -> Criterion
+    requires { ⌜ exposureOutOfRange (exposureOf (now job)) ≡ false ⌝ }
+    ensures { λ r. ⌜ r ≡ criterionOf (now (job .entry)) ⌝ }
+{
+    let exposure = exposure_of(job);
+    let kind = kind_of(job);
+    Criterion {
+        kind,
+        x: x(exposure) as u32,
+        y: y(exposure) as u32,
+        z: z(exposure) as u32,
+        target: target_of(job),
+    }
+}
+
 pub(crate) fn exposure_of(job: &[u8]) -> Exposure
     ensures { λ r. ⌜ r ≡ exposureOf (now (job .entry)) ⌝ }
 {
     Exposure {
-        child: group_at(job, 32),
-        adult: group_at(job, 40),
+        child: group_at(job, CHILD),
+        adult: group_at(job, ADULT),
     }
 }

@@ -1,83 +1,63 @@
 // What is worked out for an accepted job.
-use crate::check::intake_of;
-use crate::exposure::x;
-use crate::exposure::y;
-use crate::exposure::z;
-use crate::fields::exposure_of;
-use crate::fields::kind_of;
-use crate::fields::rate_of;
-use crate::fields::target_of;
-use crate::figures::figures;
 use crate::job::Answer;
+use crate::job::Figures;
 use crate::job::Outcome;
-use crate::reading::Intake;
-use balance::factors;
-use balance::read_table;
-use balance::u16_at;
+use crate::verdict::Criterion;
+use crate::verdict::judged;
+use crate::working::alpha_sum;
+use crate::working::working_levels;
+use balance::factors_read;
+use book::ChainTable;
+use book::MAX_MEMBERS;
+use refusals::Checked;
 ghost use mathlib.Core.Path.{_≡_};
-ghost use Prim.Native.Nat.{_<_, _^_};
 ghost use lib.ListN.{replicate};
-ghost use Rattle.balance.specs.Limits.{maxMembers};
-ghost use Rattle.balance.specs.Book.{workingLevelDivisor};
+ghost use Rattle.book.specs.Limits.{maxMembers};
+ghost use Rattle.book.specs.Fields.{coefficient};
+ghost use Rattle.book.specs.BookGrounds.{Accepted};
+ghost use Rattle.book.specs.Table.{tableOf};
 ghost use Rattle.balance.specs.Factors.{factorList};
-ghost use Rattle.screening.specs.Private.Checks.{concentrationIn};
-ghost use Rattle.screening.specs.Private.Screened.{Passes, answerOver};
+ghost use Rattle.screening.specs.Screening.{screenedAt};
+ghost use Rattle.screening.specs.Private.Checks.{Screenable};
 
 // The factors at a rate, in an array of zeros.
-fn factor_array(v: u32, book: &[u8]) -> [u64; 16]
+fn factor_list(table: ChainTable, v: u32, book: &[u8]) -> [u64; MAX_MEMBERS]
+    requires { ⌜ Accepted (now book) ⌝ }
+    requires { ⌜ table ≡ tableOf (now book) ⌝ }
     ensures { λ r. ⌜ r ≡ factorList v (now (book .entry)) (replicate maxMembers 0) ⌝ }
 {
-    let mut list = [0u64; 16];
-    factors(v, book, &mut list);
+    let mut list = [0u64; MAX_MEMBERS];
+    factors_read(Checked::Passed, table, v, book, &mut list);
     list
 }
 
-// W, which has two bytes.
-fn divisor_of(book: &[u8]) -> u64
-    ensures value { λ r. ⌜ r ≡ workingLevelDivisor (now (book .entry)) ⌝ }
-    ensures range { λ r. ⌜ r < 2 ^ 16 ⌝ }
+// The answer for a book that is checked and read, at a rate and a concentration.
+pub(crate) fn screened(
+    by: Criterion,
+    v: u32,
+    concentration: u64,
+    book: &[u8],
+    table: ChainTable,
+) -> Answer
+    requires { ⌜ Screenable by v concentration (now book) table ⌝ }
+    ensures { λ r. ⌜ r ≡ screenedAt by (now (book .entry)) (coefficient (now (book .entry))) v concentration ⌝ }
 {
-    u16_at(book, 2)
-}
-
-// C; a refused reading has none.
-fn concentration_in(intake: Intake) -> u64
-    ensures { λ r. ⌜ r ≡ concentrationIn intake ⌝ }
-{
-    match intake {
-        Intake::Concentration(concentration) => concentration,
-        Intake::TooHigh => 0,
-        Intake::Unusable => 0,
-    }
-}
-
-// The answer to a job that the checks pass, with its book.
-pub(crate) fn screened(job: &[u8], book: &[u8]) -> Answer
-    requires { ⌜ Passes (now job) (now book) ⌝ }
-    ensures { λ r. ⌜ r ≡ answerOver (now (job .entry)) (now (book .entry)) ⌝ }
-{
-    let v = rate_of(job);
-    let list = factor_array(v, book);
-    let at_zero = factor_array(0, book);
-    let table = read_table(book);
+    let list = factor_list(table, v, book);
+    let at_zero = factor_list(table, 0, book);
     let count = table.members;
     let coefficients = table.coefficients;
-    let exposure = exposure_of(job);
-    let worked = figures(
-        kind_of(job),
-        x(exposure) as u32,
-        y(exposure) as u32,
-        z(exposure) as u32,
-        target_of(job),
-        concentration_in(intake_of(job)),
-        count,
-        coefficients,
-        divisor_of(book),
-        list,
-        at_zero,
-    );
+    let found = judged(by, concentration, count, &coefficients, &list);
+    let alpha = alpha_sum(count, &coefficients, &list);
+    let alpha_at_zero = alpha_sum(count, &coefficients, &at_zero);
+    let verdict = found.verdict;
+    let figures = Figures {
+        concentration,
+        verdict,
+        level: found.level,
+        working: working_levels(alpha, alpha_at_zero, concentration, table.divisor),
+    };
     Answer {
-        outcome: Outcome::Screened(worked),
+        outcome: Outcome::Screened(figures),
         factors: list,
         count,
     }

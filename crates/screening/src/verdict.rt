@@ -1,11 +1,13 @@
 // The verdict on risk or yearly dose, and the screening level.
 ghost use mathlib.Core.Path.{_≡_};
-ghost use Prim.Native.Nat.{_*_, _≤_};
+ghost use Prim.Native.Nat.{_+_, _*_, _≤_};
 ghost use Rattle.wide.specs.Value.{value};
 ghost use Rattle.balance.specs.Balance.{G};
-ghost use Rattle.screening.specs.Refusals.{maxTarget};
-ghost use Rattle.screening.specs.Verdict.{verdictOf, inhalation, cappedQuotient, maxLevel};
-ghost use Rattle.screening.specs.Private.Tabled.{tabledBound};
+ghost use Rattle.screening.specs.Verdict.{verdictOf, inhalation, submersion, boundOf, cappedQuotient, maxLevel};
+ghost use Rattle.screening.specs.Private.Tabled.{CriterionInRange, assessmentIn, judgedOn, Judgeable};
+use crate::weighted::weighted_sum;
+use book::COEFFICIENTS;
+use book::MAX_MEMBERS;
 use wide::at_most;
 use wide::capped_quotient;
 use wide::from_u64;
@@ -13,6 +15,16 @@ use wide::multiple;
 
 // In mBq/m³.
 const MAX_LEVEL: u32 = 4_000_000_000;
+
+// 1 pCi is so many mBq.
+const MILLIBECQUERELS: u64 = 37;
+
+const HOURS_PER_YEAR: u64 = 8_760;
+
+// What B has besides, for billionths of risk and for thousandths of mrem.
+const RISK_SCALE: u32 = 100_000_000;
+
+const DOSE_SCALE: u32 = 10_000_000;
 
 // 2^20: the parent has 2^40 grains.
 const ROOT_OF_GRAINS: u32 = 0x10_0000;
@@ -22,6 +34,15 @@ pub enum Kind {
     Dose,
 }
 
+// What a room is judged by: the kind, X, Y and Z over both groups, and the target.
+pub struct Criterion {
+    pub kind: Kind,
+    pub x: u32,
+    pub y: u32,
+    pub z: u32,
+    pub target: u32,
+}
+
 // From best to worst.
 pub enum Verdict {
     Below,
@@ -29,9 +50,14 @@ pub enum Verdict {
     Above,
 }
 
+pub struct Judgement {
+    pub verdict: Verdict,
+    pub level: u32,
+}
+
 // The place of the inhalation coefficient among a member's five numbers; the submersion coefficient follows it.
 pub(crate) fn first_place(kind: Kind) -> usize
-    ensures { λ r. ⌜ r ≡ inhalation kind ⌝ }
+    ensures { λ r. ⌜ (r ≡ inhalation kind) × (r + 1 ≡ submersion kind) × (r ≤ 3) ⌝ }
 {
     match kind {
         Kind::Risk => 0,
@@ -39,14 +65,19 @@ pub(crate) fn first_place(kind: Kind) -> usize
     }
 }
 
-// B, for z years in all.
-pub(crate) fn limit(kind: Kind, z: u32, target: u32) -> [u32; 6]
-    requires { ⌜ (z ≤ 200) × (target ≤ maxTarget) ⌝ }
-    ensures { λ r. ⌜ value r ≡ tabledBound kind z target ⌝ }
+// B.
+fn bound_of(by: Criterion) -> [u32; 6]
+    requires { ⌜ CriterionInRange by ⌝ }
+    ensures { λ r. ⌜ value r ≡ boundOf by ⌝ }
 {
+    let kind = by.kind;
+    let target = by.target as u64;
     match kind {
-        Kind::Risk => in_grains(target as u64 * 37 * 8760, 100_000_000),
-        Kind::Dose => in_grains(target as u64 * z as u64 * 37 * 8760, 10_000_000),
+        Kind::Risk => in_grains(target * MILLIBECQUERELS * HOURS_PER_YEAR, RISK_SCALE),
+        Kind::Dose => in_grains(
+            target * by.z as u64 * MILLIBECQUERELS * HOURS_PER_YEAR,
+            DOSE_SCALE,
+        ),
     }
 }
 
@@ -61,12 +92,12 @@ fn in_grains(amount: u64, scale: u32) -> [u32; 6]
 }
 
 // 'Below' where High is at most B, 'above' where Low is more, otherwise 'close'.
-pub(crate) fn verdict_of(low: [u32; 6], high: [u32; 6], limit: [u32; 6]) -> Verdict
-    ensures { λ r. ⌜ r ≡ verdictOf (value low) (value high) (value limit) ⌝ }
+fn verdict_of(low: [u32; 6], high: [u32; 6], bound: [u32; 6]) -> Verdict
+    ensures { λ r. ⌜ r ≡ verdictOf (value low) (value high) (value bound) ⌝ }
 {
-    if at_most(high, limit) {
+    if at_most(high, bound) {
         Verdict::Below
-    } else if at_most(low, limit) {
+    } else if at_most(low, bound) {
         Verdict::Close
     } else {
         Verdict::Above
@@ -74,8 +105,29 @@ pub(crate) fn verdict_of(low: [u32; 6], high: [u32; 6], limit: [u32; 6]) -> Verd
 }
 
 // The largest concentration up to the cap for which High is at most B.
-pub(crate) fn level_of(limit: [u32; 6], high_at_one: [u32; 6]) -> u32
-    ensures { λ r. ⌜ r ≡ cappedQuotient maxLevel (value limit) (value «high_at_one») ⌝ }
+fn level_of(bound: [u32; 6], high_at_one: [u32; 6]) -> u32
+    ensures { λ r. ⌜ r ≡ cappedQuotient maxLevel (value bound) (value «high_at_one») ⌝ }
 {
-    capped_quotient(limit, high_at_one, MAX_LEVEL)
+    capped_quotient(bound, high_at_one, MAX_LEVEL)
+}
+
+// The verdict at a concentration and the level, from the members' numbers and factors.
+pub(crate) fn judged(
+    by: Criterion,
+    concentration: u64,
+    count: usize,
+    coefficients: &[u32; COEFFICIENTS * MAX_MEMBERS],
+    factors: &[u64; MAX_MEMBERS],
+) -> Judgement
+    requires { ⌜ Judgeable by concentration count (now factors) ⌝ }
+    ensures { λ r. ⌜ r ≡ judgedOn (assessmentIn by count (now (coefficients .entry)) (now (factors .entry))) concentration ⌝ }
+{
+    let low = weighted_sum(by, count, coefficients, factors, 0);
+    let high = weighted_sum(by, count, coefficients, factors, 2);
+    let bound = bound_of(by);
+    let times = concentration as u32;
+    Judgement {
+        verdict: verdict_of(multiple(low, times), multiple(high, times), bound),
+        level: level_of(bound, high),
+    }
 }

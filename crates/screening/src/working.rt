@@ -1,10 +1,13 @@
 // The equilibrium factor and the working levels.
 ghost use mathlib.Core.Path.{_≡_};
-ghost use Prim.Native.Nat.{_^_, _≤_};
-ghost use Rattle.balance.specs.Limits.{maxMembers};
+ghost use Prim.Native.Nat.{_*_, _^_, _≤_};
+ghost use lib.ListN.{getD};
+ghost use Rattle.book.specs.Limits.{maxMembers};
 ghost use Rattle.wide.specs.Value.{value};
-ghost use Rattle.screening.specs.WorkingLevels.{workingLevels};
-ghost use Rattle.screening.specs.Private.Tabled.{tabledAlpha, WorkingInRange};
+ghost use Rattle.screening.specs.WorkingLevels.{alphaSum, workingLevels};
+ghost use Rattle.screening.specs.Private.Tabled.{numberIn, WorkingInRange};
+use book::COEFFICIENTS;
+use book::MAX_MEMBERS;
 use wide::at_most;
 use wide::capped_quotient;
 use wide::from_u64;
@@ -14,6 +17,14 @@ use wide::sum;
 // One whole, in millionths.
 const MILLION: u32 = 1_000_000;
 
+// The place of the alpha energy weight among a member's five numbers.
+const ALPHA: usize = 4;
+
+// mBq/m³ in one pCi/L; W is in tenths of that.
+const PER_PICOCURIE: u64 = 37_000;
+
+const TENTHS: u64 = 10;
+
 pub enum WorkingLevels {
     // No member but the gas has an alpha energy weight and a factor.
     None,
@@ -22,9 +33,13 @@ pub enum WorkingLevels {
 }
 
 // The sum of alpha energy weight times factor over every member but the gas.
-pub(crate) fn alpha_sum(count: usize, factors: [u64; 16], coefficients: [u32; 80]) -> [u32; 6]
+pub(crate) fn alpha_sum(
+    count: usize,
+    coefficients: &[u32; COEFFICIENTS * MAX_MEMBERS],
+    factors: &[u64; MAX_MEMBERS],
+) -> [u32; 6]
     requires { ⌜ (1 ≤ count) × (count ≤ maxMembers) ⌝ }
-    ensures exact { λ r. ⌜ value r ≡ tabledAlpha count coefficients factors ⌝ }
+    ensures exact { λ r. ⌜ value r ≡ alphaSum count (numberIn (now (coefficients .entry))) (λ i. getD (now (factors .entry)) i 0) ⌝ }
     ensures small { λ r. ⌜ value r ≤ 2 ^ 117 ⌝ }
 {
     let last = count - 1;
@@ -34,11 +49,18 @@ pub(crate) fn alpha_sum(count: usize, factors: [u64; 16], coefficients: [u32; 80
         i += 1;
         let next = sum(
             total,
-            multiple(from_u64(factors[i]), coefficients[5 * i + 4]),
+            alpha_term(factors[i], coefficients[COEFFICIENTS * i + ALPHA]),
         );
         total = next;
     }
     total
+}
+
+fn alpha_term(factor: u64, weight: u32) -> [u32; 6]
+    ensures exact { λ r. ⌜ value r ≡ weight * factor ⌝ }
+    ensures small { λ r. ⌜ value r ≤ 2 ^ 113 ⌝ }
+{
+    multiple(from_u64(factor), weight)
 }
 
 // From the alpha sums at the rate and at rate 0. The first is no more than the second, so the quotient is at most one whole.
@@ -46,7 +68,7 @@ pub(crate) fn working_levels(
     at_rate: [u32; 6],
     at_zero: [u32; 6],
     concentration: u64,
-    divisor: u64,
+    divisor: u16,
 ) -> WorkingLevels
     requires { ⌜ WorkingInRange (value «at_rate») (value «at_zero») concentration divisor ⌝ }
     ensures { λ r. ⌜ r ≡ workingLevels (value «at_rate») (value «at_zero») concentration divisor ⌝ }
@@ -57,6 +79,6 @@ pub(crate) fn working_levels(
     let equilibrium = capped_quotient(multiple(at_rate, MILLION), at_zero, MILLION) as u64;
     WorkingLevels::Levels {
         equilibrium,
-        micro: 10 * concentration * equilibrium / (37_000 * divisor),
+        micro: TENTHS * concentration * equilibrium / (PER_PICOCURIE * divisor as u64),
     }
 }

@@ -1,8 +1,7 @@
--- Laws on numbers of six limbs. The first four are for callers: what bounds a number, what a comparison says, where a result is exact, and what
--- the capped quotient is. The others serve the proofs of this crate.
+-- Laws on numbers of six limbs. The first three are for callers: what bounds a number, what a result says, and what the capped quotient is.
+-- The others serve the proofs of this crate.
 pub mod Bounds
-pub mod Comparison
-pub mod Exact
+pub mod Results
 pub mod LargestFactor
 mod Carries
 mod Guess

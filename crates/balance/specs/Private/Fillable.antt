@@ -2,12 +2,13 @@
 use Prim.Native.Nat.{ℕ, _-_, _≤_, _<_}
 use mathlib.Core.List.{List, map}
 use lib.ListN.{getD}
-use Rattle.balance.specs.Limits.{maxRate, maxMembers, maxFeeds, maxHalfLife, wholeShare}
-use Rattle.balance.specs.Book.{along}
+use Rattle.balance.specs.Rates.{maxRate}
+use Rattle.book.specs.Limits.{maxMembers, maxFeeds, maxHalfLife}
+use Rattle.book.specs.Fields.{along}
 use Rattle.balance.specs.Chain.{Feed}
+use Rattle.balance.specs.Private.Tabled.{scaleIn, chainIn}
 use Rattle.balance.specs.Private.Sound.{Sound}
-use Rattle.balance.specs.Table.{chainIn}
-use Rattle.balance.specs.declared.table.ChainTable.{ChainTable}
+use Rattle.book.specs.declared.table.ChainTable.{ChainTable}
 
 -- Every index met along the feeds from the first on is within the arrays, and within a list of so many factors.
 pub record Linked (first feeds count : ℕ) (froms nexts : List ℕ) : Type 0 where
@@ -28,4 +29,4 @@ pub record Fillable (table : ChainTable) (v room : ℕ) : Type 0 where
   pub rate : v ≤ maxRate
   pub half-lives : (i : ℕ) → 1 ≤ i → i < table .members → getD (table .«half_lives») i 0 ≤ maxHalfLife
   pub linked : (i : ℕ) → i < table .members → Linked (getD (table .firsts) i 0) (table .feeds) (table .members) (table .froms) (table .nexts)
-  pub sound : Sound wholeShare (chainIn table)
+  pub sound : Sound (scaleIn table) (chainIn table)

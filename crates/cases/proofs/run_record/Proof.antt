@@ -10,8 +10,5 @@ slice-aggregate-run-in c =
     let start = c .before .before in
     sym (length-take-le (start .args .size) (start .args .space .now) (start .pre))
 
-same-length : tie.Need-same-length
-same-length c = search needs
-
 pub run-record-spec : {M : Type 1} → statement M
-run-record-spec = tie.close (tie.spec (search needs) slice-aggregate-run-in (search needs) same-length (search needs))
+run-record-spec = tie.close (tie.spec (search needs) slice-aggregate-run-in (search needs) (search needs) (search needs))

@@ -6,18 +6,9 @@ use borrow.Author.Needs.{needs}
 use Rattle.edges.proofs.run_call.Statement.{statement}
 use Rattle.edges.proofs.run_call.Tie as tie
 
-array-borrow-prefix-list : tie.Need-array-borrow-prefix-list
-array-borrow-prefix-list c = search needs
-
 slice-aggregate-call-on : tie.Need-slice-aggregate-call-on
 slice-aggregate-call-on c = sym (length-take-le (c .before .before .args .room) (replicate 20 7) (c .before .before .pre))
 
-call-on-requires : tie.Need-call-on-requires
-call-on-requires c κs = search needs
-
-returns : tie.Need-returns
-returns c = search needs
-
 pub run-call-spec : {M : Type 1} → statement M
 run-call-spec =
-    tie.close (tie.spec array-borrow-prefix-list slice-aggregate-call-on call-on-requires returns)
+    tie.close (tie.spec (search needs) slice-aggregate-call-on (search needs) (search needs))

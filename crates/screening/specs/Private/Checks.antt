@@ -1,54 +1,51 @@
--- The grounds of a job in the parts that are checked one after the other: what the checks' private functions answer.
--- No public contract names these.
-use Prim.Native.Nat.{ℕ}
+-- The grounds of a job in the parts that are checked one after the other, and what the code asks where they pass.
+use Prim.Native.Nat.{ℕ, _≤_}
+use mathlib.Core.Path.{_≡_}
 use mathlib.Core.List.{List, [], _∷_}
+use lib.ListN.{length}
 use lib.Dec.{ltb}
-use Rattle.balance.specs.Limits.{maxRate}
-use Rattle.balance.specs.declared.Checked.{Checked}
-use Rattle.screening.specs.Job.{rate, target, exposureOf}
+use Rattle.refusals.specs.Grounds.{Ground, ground}
+use Rattle.refusals.specs.declared.Refusal.the-variants.{JobTooShort, CodeUnknown, RateTooHigh, TargetTooHigh, AttenuationOutOfRange, ExposureOutOfRange, ReadingUnusable, ConcentrationTooHigh}
+use Rattle.book.specs.BookGrounds.{Accepted}
+use Rattle.book.specs.Table.{tableOf}
+use Rattle.book.specs.declared.table.ChainTable.{ChainTable}
+use Rattle.balance.specs.Rates.{maxRate}
+use Rattle.reading.specs.Reading.{readingUnusable, concentrationTooHigh, maxConcentration}
+use Rattle.screening.specs.Job.{rate, target, readingOf, forReading, exposureOf, jobLength}
 use Rattle.screening.specs.Exposure.{exposureOutOfRange}
-use Rattle.screening.specs.Reading.{readingUnusable, concentrationTooHigh}
-use Rattle.screening.specs.Refusals.{JobGround, jobGround, codeUnknown, maxTarget, attenuationOutOfRange}
-use Rattle.screening.specs.declared.job.JobRefusal.{JobRefusal}
-use Rattle.screening.specs.declared.job.JobChecked.{JobChecked}
-use Rattle.screening.specs.declared.reading.Intake.{Intake}
-use Rattle.screening.specs.declared.reading.Medium.{Medium}
-use Rattle.screening.specs.declared.reading.Reading.{Reading}
+use Rattle.screening.specs.JobGrounds.{codeUnknown, maxTarget, attenuationOutOfRange}
+use Rattle.screening.specs.Private.Tabled.{CriterionInRange}
+use Rattle.reading.specs.declared.amounts.Intake.{Intake}
+use Rattle.screening.specs.declared.verdict.Criterion.{Criterion}
 
--- 2 to 6.
-abbrev pub fieldGrounds : List ℕ → List JobGround
+-- 1 to 6.
+abbrev pub fieldGrounds : List ℕ → List Ground
 fieldGrounds job =
-    jobGround JobRefusal.CodeUnknown (codeUnknown job)
-    ∷ jobGround JobRefusal.RateTooHigh (ltb maxRate (rate job))
-    ∷ jobGround JobRefusal.TargetTooHigh (ltb maxTarget (target job))
-    ∷ jobGround JobRefusal.AttenuationOutOfRange (attenuationOutOfRange job)
-    ∷ jobGround JobRefusal.ExposureOutOfRange (exposureOutOfRange (exposureOf job))
+    ground JobTooShort (ltb (length job) jobLength)
+    ∷ ground CodeUnknown (codeUnknown job)
+    ∷ ground RateTooHigh (ltb maxRate (rate job))
+    ∷ ground TargetTooHigh (ltb maxTarget (target job))
+    ∷ ground AttenuationOutOfRange (attenuationOutOfRange job)
+    ∷ ground ExposureOutOfRange (exposureOutOfRange (exposureOf job))
     ∷ []
 
 -- 7 and 8.
-abbrev pub readingGrounds : ℕ → Medium → ℕ → Reading → List JobGround
-readingGrounds unit medium af reading =
-    jobGround JobRefusal.ReadingUnusable (readingUnusable reading)
-    ∷ jobGround JobRefusal.ConcentrationTooHigh (concentrationTooHigh unit medium af reading)
+abbrev pub readingGrounds : List ℕ → List Ground
+readingGrounds job =
+    ground ReadingUnusable (readingUnusable (readingOf job))
+    ∷ ground ConcentrationTooHigh (forReading concentrationTooHigh job)
     ∷ []
 
--- What the intake of a reading says of its grounds.
-abbrev pub intakeChecked : Intake → JobChecked
-intakeChecked (Intake.Concentration c) = JobChecked.Passed
-intakeChecked Intake.TooHigh = JobChecked.Refused JobRefusal.ConcentrationTooHigh
-intakeChecked Intake.Unusable = JobChecked.Refused JobRefusal.ReadingUnusable
-
+-- C; a refused reading has none.
 abbrev pub concentrationIn : Intake → ℕ
 concentrationIn (Intake.Concentration c) = c
 concentrationIn Intake.TooHigh = 0
 concentrationIn Intake.Unusable = 0
 
--- What the checks of a book say of its job.
-abbrev pub bookChecked : Checked → JobChecked
-bookChecked Checked.Passed = JobChecked.Passed
-bookChecked (Checked.Refused refusal) = JobChecked.Refused (JobRefusal.Book refusal)
-
--- What the earlier checks find, and where they pass what the later ones find.
-abbrev pub orElse : JobChecked → JobChecked → JobChecked
-orElse (JobChecked.Refused refusal) later = JobChecked.Refused refusal
-orElse JobChecked.Passed later = later
+-- What is screened: numbers within their limits, and an accepted book with its table.
+pub record Screenable (by : Criterion) (v C : ℕ) (book : List ℕ) (table : ChainTable) : Type 0 where
+  pub criterion : CriterionInRange by
+  pub rate : v ≤ maxRate
+  pub concentration : C ≤ maxConcentration
+  pub accepted : Accepted book
+  pub read : table ≡ tableOf book

@@ -1,75 +1,47 @@
--- What the figures are worked out from: the sums over an exposure as numbers, and the members' coefficients and factors in lists.
+-- What is worked out from the arrays that the code holds of a book: its members' numbers, and their factors.
 use Prim.Native.Nat.{ℕ, _+_, _*_, _^_, _≤_, _<_, min}
 use mathlib.Core.List.{List}
 use lib.ListN.{getD}
-use Rattle.balance.specs.Limits.{maxMembers}
+use Rattle.book.specs.Limits.{maxMembers}
+use Rattle.book.specs.Fields.{coefficientCount}
 use Rattle.balance.specs.Balance.{G}
-use Rattle.screening.specs.Refusals.{maxTarget}
-use Rattle.screening.specs.Reading.{maxConcentration}
-use Rattle.screening.specs.Verdict.{Assessment, inhalation, submersion, verdictAt, level}
-use Rattle.screening.specs.WorkingLevels.{alphaSum, workingLevels}
-use Rattle.screening.specs.declared.job.Figures.{Figures}
-use Rattle.screening.specs.declared.verdict.Kind.{Kind}
+use Rattle.reading.specs.Reading.{maxConcentration}
+use Rattle.screening.specs.Exposure.{maxYears}
+use Rattle.screening.specs.JobGrounds.{maxTarget}
+use Rattle.screening.specs.Verdict.{Assessment, weightOf, boundOf, verdictAt, level}
+use Rattle.screening.specs.declared.verdict.Criterion.{Criterion}
+use Rattle.screening.specs.declared.verdict.Judgement.{Judgement}
 
 -- A member's five numbers stand together.
-abbrev pub tabled : List ℕ → ℕ → ℕ → ℕ
-tabled coefficients i which = getD coefficients (5 * i + which) 0
-
--- q(i), of the coefficients at place `first` and after it.
-abbrev pub tabledWeight : ℕ → ℕ → ℕ → List ℕ → ℕ → ℕ
-tabledWeight first x y coefficients i = 365 * x * tabled coefficients i first + y * tabled coefficients i (first + 1)
-
--- B, for the sum of years z.
-abbrev pub tabledBound : Kind → ℕ → ℕ → ℕ
-tabledBound Kind.Risk z target = target * 37 * 8760 * 10 ^ 8 * G
-tabledBound Kind.Dose z target = target * z * 37 * 8760 * 10 ^ 7 * G
+abbrev pub numberIn : List ℕ → ℕ → ℕ → ℕ
+numberIn coefficients i which = getD coefficients (coefficientCount * i + which) 0
 
 -- A member's term of Low (margin 0) and of High (margin 2): the weight times the factor with its margin, capped at G.
-abbrev pub tabledTerm : ℕ → ℕ → ℕ → ℕ → List ℕ → List ℕ → ℕ → ℕ
-tabledTerm first x y margin coefficients factors i =
-    tabledWeight first x y coefficients i * min (getD factors i 0 + margin * i) G
+abbrev pub termIn : Criterion → List ℕ → List ℕ → ℕ → ℕ → ℕ
+termIn by coefficients factors margin i = weightOf by (numberIn coefficients) i * min (getD factors i 0 + margin * i) G
 
--- The sum over i ≥ 1 of w × factor.
-abbrev pub tabledAlpha : ℕ → List ℕ → List ℕ → ℕ
-tabledAlpha count coefficients factors = alphaSum count (tabled coefficients) (λ i. getD factors i 0)
+abbrev pub assessmentIn : Criterion → ℕ → List ℕ → List ℕ → Assessment
+assessmentIn by count coefficients factors =
+    record { count = count; weight = weightOf by (numberIn coefficients); factor = λ i. getD factors i 0; bound = boundOf by }
 
--- What the working levels are worked out from: no more at the rate than at rate 0, C at most its limit, and a book's divisor W.
+-- The verdict and the level of an assessment at C.
+abbrev pub judgedOn : Assessment → ℕ → Judgement
+judgedOn a C = record { verdict = verdictAt a C; level = level a }
+
+-- What the checks of a job leave of its numbers.
+pub record CriterionInRange (by : Criterion) : Type 0 where
+  pub years : by .z ≤ 2 * maxYears
+  pub target : by .target ≤ maxTarget
+
+pub record Judgeable (by : Criterion) (C count : ℕ) (factors : List ℕ) : Type 0 where
+  pub criterion : CriterionInRange by
+  pub concentration : C ≤ maxConcentration
+  pub members : count ≤ maxMembers
+  pub capped : (i : ℕ) → i < count → getD factors i 0 ≤ G
+
+-- What the working levels are worked out from: no more at the rate than at rate 0, C at most its limit, and a divisor W.
 pub record WorkingInRange (atRate atZero C W : ℕ) : Type 0 where
   pub falls : atRate ≤ atZero
   pub sums : atZero ≤ 2 ^ 117
   pub concentration : C ≤ maxConcentration
   pub some-divisor : 0 < W
-  pub divisor : W < 2 ^ 16
-
--- What the verdict is reached on, of such lists.
-abbrev pub tabledAssessment : Kind → ℕ → ℕ → ℕ → ℕ → ℕ → List ℕ → List ℕ → Assessment
-tabledAssessment kind x y z target count coefficients factors =
-    record {
-      count = count;
-      weight = λ i. 365 * x * tabled coefficients i (inhalation kind) + y * tabled coefficients i (submersion kind);
-      factor = λ i. getD factors i 0;
-      limit = tabledBound kind z target;
-    }
-
--- The figures of an assessment at C, with the alpha sums at the rate and at rate 0, and W.
-abbrev pub figuresFor : Assessment → ℕ → ℕ → ℕ → ℕ → Figures
-figuresFor a atRate atZero C W =
-    record {
-      concentration = C;
-      verdict = verdictAt a C;
-      level = level a;
-      working = workingLevels atRate atZero C W;
-    }
-
--- What the figures are worked out from: a table of members, what the checks of a job leave of its numbers,
--- and factors that are no more at the rate than at rate 0.
-pub record FiguresInRange (z target C count W : ℕ) (factors atZero : List ℕ) : Type 0 where
-  pub some-member : 0 < count
-  pub members : count ≤ maxMembers
-  pub years : z ≤ 200
-  pub target-within : target ≤ maxTarget
-  pub concentration : C ≤ maxConcentration
-  pub some-divisor : 0 < W
-  pub divisor : W < 2 ^ 16
-  pub capped : (i : ℕ) → i < count → getD factors i 0 ≤ G
-  pub falls : (i : ℕ) → i < count → getD factors i 0 ≤ getD atZero i 0

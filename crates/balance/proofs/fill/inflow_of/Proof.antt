@@ -7,57 +7,55 @@ use Rattle.balance.proofs.fill.inflow_of.Statement.{statement}
 use Rattle.balance.proofs.fill.inflow_of.Tie as tie
 
 abbrev Inv-loop : tie.InvT-loop
-Inv-loop first feeds factors shares froms nexts sum₀ feed₀ left₀ sum feed left = Summed first feeds shares froms nexts factors sum feed left
+Inv-loop first feeds shares froms nexts factors sum₀ feed₀ left₀ sum feed left = Summed first feeds shares froms nexts factors sum feed left
 
 abbrev μ-loop : tie.MeasureT-loop
-μ-loop first feeds factors shares froms nexts sum₀ feed₀ left₀ sum feed left = left
+μ-loop first feeds shares froms nexts factors sum₀ feed₀ left₀ sum feed left = left
 
 loop-holds : tie.Need-loop-holds Inv-loop μ-loop
-loop-holds c = summed-none (c .pre .0) (c .pre .1)
+loop-holds c = summed-none (c .before .pre .0) (c .before .pre .1)
 
 returns : tie.Need-returns Inv-loop μ-loop
 returns c = summed-at-end (c .before .before .loop .inv) (c .if1 .taken)
 
-mul-sum-2 : tie.Need-mul-sum-2 Inv-loop μ-loop
-mul-sum-2 c = omega (arith, summed-from (c .before .before .loop .inv) (c .if1 .left))
-
 shared-slice-read-sum : tie.Need-shared-slice-read-sum Inv-loop μ-loop
-shared-slice-read-sum c = summed-from (c .before .before .before .loop .inv) (c .before .if1 .left)
+shared-slice-read-sum c =
+    let read = c .before .before .before in
+    let turn = read .before .before in
+    summed-from (turn .before .before .loop .inv) (turn .if1 .left) (read .index .ensures .0)
 
-mul-sum-3 : tie.Need-mul-sum-3 Inv-loop μ-loop
-mul-sum-3 c = omega (arith, summed-fits (c .before .before .before .loop .inv) (c .before .before .loop-test .taken) (c .before .if1 .left))
+-- No sum on the way passes the whole inflow, which fits.
+mul-sum-2 : tie.Need-mul-sum-2 Inv-loop μ-loop
+mul-sum-2 c =
+    let read = c .before .before .before in
+    let turn = read .before .before in
+    omega (arith, summed-fits (turn .before .before .loop .inv) (turn .if1 .left) (turn .before .loop-test .taken) (c .before .widened .ensures) (read .index .ensures .0))
 
 add-sum : tie.Need-add-sum Inv-loop μ-loop
-add-sum c = omega (arith, summed-fits (c .before .before .before .loop .inv) (c .before .before .loop-test .taken) (c .before .if1 .left))
+add-sum c =
+    let read = c .before .before .before in
+    let turn = read .before .before in
+    omega (arith, summed-fits (turn .before .before .loop .inv) (turn .if1 .left) (turn .before .loop-test .taken) (c .before .widened .ensures) (read .index .ensures .0))
 
 loop-again : tie.Need-loop-again Inv-loop μ-loop
-loop-again c = summed-more (c .before .before .before .loop .inv) (c .before .before .loop-test .taken) (c .before .if1 .left)
+loop-again c =
+    let added = c .before .before .before in
+    let read = added .before .before in
+    let turn = read .before .before in
+    summed-more
+    (turn .before .before .loop .inv)
+    (turn .if1 .left)
+    (turn .before .loop-test .taken)
+    (added .widened .ensures)
+    (read .index .ensures .0)
+    (c .index2 .ensures .0)
 
 returns-2 : tie.Need-returns-2 Inv-loop μ-loop
 returns-2 c = summed-at-cut (c .before .loop .inv) (c .loop-test .left)
 
 pub inflow-of-spec : {M : Type 1} → statement M
 inflow-of-spec =
-    tie.close
-    (tie.spec
-    Inv-loop
-    μ-loop
-    (search needs)
-    loop-holds
-    returns
-    (λ c. search needs)
-    (λ c. search needs)
-    (λ c. search needs)
-    (λ c. search needs)
-    (λ c. search needs)
-    (λ c. search needs)
-    mul-sum-2
-    shared-slice-read-sum
-    mul-sum-3
-    add-sum
-    (λ c. search needs)
-    (λ c. search needs)
-    (λ c. search needs)
-    (λ c. search needs)
-    loop-again
-    returns-2)
+    tie.close (tie.spec Inv-loop μ-loop (search needs) loop-holds returns (λ c. search needs) (λ c. search needs)
+    (λ c κs. search needs) (λ c. search needs) (λ c. search needs) (λ c κs. search needs) (λ c. search needs)
+    shared-slice-read-sum mul-sum-2 add-sum (λ c. search needs) (λ c κs. search needs) (λ c. search needs) (λ c. search needs)
+    loop-again returns-2)

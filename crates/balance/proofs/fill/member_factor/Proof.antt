@@ -6,14 +6,15 @@ use Rattle.balance.proofs.fill.member_factor.Statement.{statement}
 use Rattle.balance.proofs.fill.member_factor.Tie as tie
 
 mul-removal : tie.Need-mul-removal
-mul-removal c = let asked = c .before .before .before .pre in omega (arith, removal-bound (asked .1 .1 .0) (asked .1 .1 .1))
+mul-removal c = let asked = c .before .before .before .pre in omega (arith, removal-bound (asked .1 .1 .1 .0) (asked .1 .1 .1 .1))
 
 add-removal : tie.Need-add-removal
-add-removal c = let asked = c .before .before .before .pre in omega (arith, removal-bound (asked .1 .1 .0) (asked .1 .1 .1))
+add-removal c = let asked = c .before .before .before .pre in omega (arith, removal-bound (asked .1 .1 .1 .0) (asked .1 .1 .1 .1))
 
 returns : tie.Need-returns
 returns c =
     factor-in-words
+    _
     _
     _
     (c .before .before .before .before .pre .1 .0)

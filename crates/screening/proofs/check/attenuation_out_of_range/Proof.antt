@@ -1,5 +1,5 @@
 -- `screening::check::attenuation_out_of_range` meets its contract: the test is the definition's, of what the readers return.
-use Rattle.screening.specs.Refusals.{attenuationOutOfRange}
+use Rattle.screening.specs.JobGrounds.{attenuationOutOfRange}
 use borrow.Author.Needs.{needs}
 use Rattle.screening.proofs.check.attenuation_out_of_range.Statement.{statement}
 use Rattle.screening.proofs.check.attenuation_out_of_range.Tie as tie

@@ -3,11 +3,12 @@ use Prim.Native.Nat.{_*_, _≤_}
 use native.Mathlib.Nat.{mul-le-mul}
 use native.Mathlib.Omega.{arith}
 use borrow.Author.Needs.{needs}
+use Rattle.screening.specs.Exposure.{maxDays, maxYears, maxHours, maxBreathing}
 use Rattle.screening.proofs.WithinLimits.{group-within}
 use Rattle.screening.proofs.exposure.group_air.Statement.{statement}
 use Rattle.screening.proofs.exposure.group_air.Tie as tie
 
-small : (c : tie.After-group-hours) → c .group-hours .result * c .before .args .group .breathing ≤ 87840000
+small : (c : tie.After-group-hours) → c .group-hours .result * c .before .args .group .breathing ≤ maxDays * maxYears * maxHours * maxBreathing
 small c = mul-le-mul (c .group-hours .ensures .1) (group-within (c .before .args .group) (c .before .pre) .breathing)
 
 mul-result : tie.Need-mul-result

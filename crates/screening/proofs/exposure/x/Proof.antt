@@ -1,10 +1,10 @@
 -- `screening::exposure::x` meets its contract: both groups are within the limits.
 use borrow.Author.Needs.{needs}
-use Rattle.screening.proofs.WithinLimits.{within}
+use Rattle.screening.proofs.WithinLimits.{exposure-within}
 use Rattle.screening.proofs.exposure.x.Statement.{statement}
 use Rattle.screening.proofs.exposure.x.Tie as tie
 
 pub x-spec : {M : Type 1} → statement M
 x-spec =
     tie.close
-    (tie.spec (λ c κs. within _ (c .pre) .child) (λ c κs. within _ (c .before .pre) .adult) (λ c. search needs) (λ c. search needs))
+    (tie.spec (λ c κs. exposure-within _ (c .pre) .child) (λ c κs. exposure-within _ (c .before .pre) .adult) (λ c. search needs) (λ c. search needs))

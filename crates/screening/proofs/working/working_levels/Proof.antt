@@ -9,7 +9,7 @@ use lib.Dec.{eqb, lit<}
 use mathlib.Core.Bool.{true, false}
 use Rattle.wide.specs.Value.{value}
 use Rattle.wide.specs.Quotient.{LargestQuotient}
-use Rattle.wide.proofs.Comparison.{at-most-holds, at-most-fails}
+use Rattle.wide.proofs.Results.{at-most-holds, at-most-fails}
 use Rattle.wide.proofs.LargestFactor.{least-of-both}
 use Rattle.screening.specs.WorkingLevels.{workingLevels, equilibrium}
 use Rattle.screening.specs.declared.working.WorkingLevels.{WorkingLevels}

@@ -39,6 +39,5 @@ returns c =
 
 pub word-quotient-spec : {M : Type 1} → statement M
 word-quotient-spec =
-    tie.close
-    (tie.spec (search needs) (search needs) (search needs) (search needs) (search needs) (search needs) (search needs) (search needs) add-top (search needs) (search needs) digit-requires (search needs) mul-result
-    add-result returns)
+    tie.close (tie.spec (search needs) (search needs) (search needs) (search needs) (search needs) (search needs) (search needs)
+    (search needs) add-top (search needs) (search needs) digit-requires (search needs) mul-result add-result returns)

@@ -13,21 +13,6 @@ abbrev μ-loop : tie.MeasureT-loop
 loop-holds : tie.Need-loop-holds Inv-loop μ-loop
 loop-holds c = none (search needs) (search needs)
 
-sub-i : tie.Need-sub-i Inv-loop μ-loop
-sub-i c = search needs
-
-mul-x : tie.Need-mul-x Inv-loop μ-loop
-mul-x c = search needs
-
-array-read-x : tie.Need-array-read-x Inv-loop μ-loop
-array-read-x c = search needs
-
-mul-y : tie.Need-mul-y Inv-loop μ-loop
-mul-y c = search needs
-
-array-read-y : tie.Need-array-read-y Inv-loop μ-loop
-array-read-y c = search needs
-
 returns : tie.Need-returns Inv-loop μ-loop
 returns c =
     let turn = c .before .before in
@@ -38,9 +23,6 @@ returns-2 c =
     let turn = c .before .before .before in
     more (turn .loop .i) (turn .loop .inv) (c .before .before .loop-test .taken) (c .if2 .taken)
 
-loop-less : tie.Need-loop-less Inv-loop μ-loop
-loop-less c = search needs
-
 loop-again : tie.Need-loop-again Inv-loop μ-loop
 loop-again c =
     let turn = c .before .before .before in
@@ -50,4 +32,4 @@ returns-3 : tie.Need-returns-3 Inv-loop μ-loop
 returns-3 c = all (c .before .loop .inv) (c .loop-test .left)
 
 pub at-most-spec : {M : Type 1} → statement M
-at-most-spec = tie.close (tie.spec Inv-loop μ-loop loop-holds sub-i mul-x array-read-x mul-y array-read-y returns returns-2 loop-less loop-again returns-3)
+at-most-spec = tie.close (tie.spec Inv-loop μ-loop loop-holds (search needs) (search needs) (search needs) (search needs) (search needs) returns returns-2 (search needs) loop-again returns-3)

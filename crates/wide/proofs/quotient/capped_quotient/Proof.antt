@@ -3,7 +3,7 @@ use borrow.Author.Needs.{needs}
 use Prim.Native.Nat.{_-_}
 use native.Mathlib.Omega.{arith}
 use Rattle.wide.specs.Value.{value}
-use Rattle.wide.proofs.Comparison.{at-most-holds, at-most-fails}
+use Rattle.wide.proofs.Results.{at-most-holds, at-most-fails}
 use Rattle.wide.proofs.Halving.{Span, whole, upper-half, lower-half, one-left}
 use Rattle.wide.proofs.quotient.capped_quotient.Statement.{statement}
 use Rattle.wide.proofs.quotient.capped_quotient.Tie as tie
@@ -17,27 +17,9 @@ abbrev μ-loop : tie.MeasureT-loop
 loop-holds : tie.Need-loop-holds Inv-loop μ-loop
 loop-holds c = whole
 
-sub-middle : tie.Need-sub-middle Inv-loop μ-loop
-sub-middle c = search needs
-
-add-middle : tie.Need-add-middle Inv-loop μ-loop
-add-middle c = search needs
-
-add-middle-2 : tie.Need-add-middle-2 Inv-loop μ-loop
-add-middle-2 c = search needs
-
-loop-less : tie.Need-loop-less Inv-loop μ-loop
-loop-less c = search needs
-
 loop-again : tie.Need-loop-again Inv-loop μ-loop
 loop-again c =
     upper-half (c .before .before .before .loop .inv) (omega arith) (at-most-holds (c .before .multiple-at-most .ensures) (c .if1 .taken))
-
-sub-high : tie.Need-sub-high Inv-loop μ-loop
-sub-high c = search needs
-
-loop-less-2 : tie.Need-loop-less-2 Inv-loop μ-loop
-loop-less-2 c = search needs
 
 loop-again-2 : tie.Need-loop-again-2 Inv-loop μ-loop
 loop-again-2 c =
@@ -47,4 +29,4 @@ returns : tie.Need-returns Inv-loop μ-loop
 returns c = one-left (c .before .loop .inv) (c .loop-test .left)
 
 pub capped-quotient-spec : {M : Type 1} → statement M
-capped-quotient-spec = tie.close (tie.spec Inv-loop μ-loop loop-holds sub-middle add-middle add-middle-2 (search needs) loop-less loop-again sub-high loop-less-2 loop-again-2 returns)
+capped-quotient-spec = tie.close (tie.spec Inv-loop μ-loop loop-holds (search needs) (search needs) (search needs) (search needs) (search needs) loop-again (search needs) (search needs) loop-again-2 returns)

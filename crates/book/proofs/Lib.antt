@@ -1,0 +1,15 @@
+-- The laws behind the contracts, in the order in which they build on each other.
+
+-- What the grounds of an accepted book say of its numbers.
+pub mod NoneMet
+pub mod BookPasses
+pub mod Ranges
+-- The loops of the checks.
+pub mod Tested
+pub mod Along
+pub mod Sought
+pub mod Occurrences
+pub mod Counted
+-- The table.
+pub mod Filled
+pub mod TableFields

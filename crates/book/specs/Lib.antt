@@ -1,0 +1,6 @@
+pub mod Bytes
+pub mod Limits
+pub mod Fields
+pub mod Tests
+pub mod BookGrounds
+pub mod Table

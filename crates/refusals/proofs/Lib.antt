@@ -1,0 +1,3 @@
+-- The laws of a list of grounds.
+pub mod FirstMet
+pub mod Numbers

@@ -1,0 +1,95 @@
+-- What an answer with figures says: the checks passed, and the figures are the definition's. So its verdict keeps demand 3's promise,
+-- and of two jobs that differ in the rate alone the one with the higher rate has no worse verdict.
+use Prim.Native.Nat.{ℕ, _+_, _-_, _≤_}
+use native.Mathlib.Omega.{arith}
+use mathlib.Core.Path.{_≡_, refl, ap, ap₂, sym, subst, _∙_}
+use mathlib.Core.List.{List}
+use lib.ListN.{getD, drop}
+use lib.Seq.{getD-drop, drop-drop}
+use Rattle.refusals.specs.declared.Checked.{Checked}
+use Rattle.reading.specs.Reading.{concentration}
+use Rattle.book.specs.Fields.{coefficient}
+use Rattle.screening.specs.Job.{rate, rateLength, concentrationOf, bookOf}
+use Rattle.screening.specs.JobGrounds.{checkedJob}
+use Rattle.screening.specs.Verdict.{verdictAt, badness}
+use Rattle.screening.specs.Screening.{criterionOf, assessmentAt, figuresAt, answerFor, answerOf}
+use Rattle.screening.specs.Promises.{AnswerPromise}
+use Rattle.screening.specs.declared.job.Answer.{Answer}
+use Rattle.screening.specs.declared.job.Figures.{Figures}
+use Rattle.screening.specs.declared.job.Outcome.{Outcome}
+use Rattle.screening.specs.declared.verdict.Criterion.{Criterion}
+use Rattle.screening.specs.declared.verdict.Verdict.{Verdict}
+use Rattle.screening.proofs.JobChecks.{JobPasses, job-passes}
+use Rattle.screening.proofs.SameBytes.{SameFields, criterion-same, for-reading-same}
+use Rattle.screening.proofs.Soundness.{verdict-promise}
+use Rattle.screening.proofs.Falling.{no-worse}
+
+abbrev figuresOf : List ℕ → List ℕ → Figures
+figuresOf job book = figuresAt (criterionOf job) book (coefficient book) (rate job) (concentrationOf job)
+
+abbrev judged : Criterion → List ℕ → ℕ → ℕ → Verdict
+judged by book v C = verdictAt (assessmentAt by book (coefficient book) v) C
+
+screened-passed :
+    (found : Checked) (job book : List ℕ) (figures : Figures) → answerFor found job book .outcome ≡ Outcome.Screened figures →
+    (found ≡ Checked.Passed) × (figures ≡ figuresOf job book)
+screened-passed Checked.Passed job book figures e = (refl, cc)
+screened-passed (Checked.Refused r) job book figures e = absurd (let z : _≡_ {A = ℕ} 0 1 = cc in omega arith)
+
+module _ (job : List ℕ) (figures : Figures) (answered : answerOf job .outcome ≡ Outcome.Screened figures) where
+  screened : (checkedJob job (bookOf job) ≡ Checked.Passed) × (figures ≡ figuresOf job (bookOf job))
+  screened = screened-passed (checkedJob job (bookOf job)) job (bookOf job) figures answered
+
+  passes : JobPasses job (bookOf job)
+  passes = job-passes job (bookOf job) (screened .0)
+
+  verdict-is :
+      figures .verdict ≡ judged (criterionOf job) (bookOf job) (rate job) (concentrationOf job)
+  unfolding figuresAt
+  verdict-is = ap (λ f. f .verdict) (screened .1)
+
+  concentration-is : figures .concentration ≡ concentrationOf job
+  unfolding figuresAt
+  concentration-is = ap (λ f. f .concentration) (screened .1)
+
+pub answer-promise : (job : List ℕ) → AnswerPromise job (answerOf job)
+answer-promise job figures answered =
+    let book = bookOf job in
+    let promise =
+    verdict-promise (criterionOf job) book (coefficient book) (rate job) (concentrationOf job) (passes job figures answered .accepted) (passes job figures answered .fields .rate)
+    in
+    rw (concentration-is job figures answered, verdict-is job figures answered) promise
+
+-- What an answer keeps that is the definition's.
+pub kept : (job : List ℕ) {answer : Answer} → answer ≡ answerOf job → AnswerPromise job answer
+kept job e = subst (AnswerPromise job) (sym e) (answer-promise job)
+
+module _ (job other : List ℕ) (same : drop rateLength job ≡ drop rateLength other) where
+  byte-same : (k : ℕ) → rateLength ≤ k → getD job k 0 ≡ getD other k 0
+  byte-same k low =
+      let at : rateLength + (k - rateLength) ≡ k = omega arith in
+      let byte : (l : List ℕ) → getD (drop rateLength l) (k - rateLength) 0 ≡ getD l k 0 =
+      λ l. getD-drop rateLength l (k - rateLength) 0 ∙ ap (λ j. getD l j 0) at
+      in
+      sym (byte job) ∙ ap (λ l. getD l (k - rateLength) 0) same ∙ byte other
+
+  fields-same : SameFields job other
+  fields-same = record { byte = λ k low high. byte-same k low }
+
+  book-same : bookOf job ≡ bookOf other
+  book-same = sym (drop-drop 44 rateLength job) ∙ ap (drop 44) same ∙ drop-drop 44 rateLength other
+
+  pub no-worse-answer :
+      (figures others : Figures) → rate job ≤ rate other → answerOf job .outcome ≡ Outcome.Screened figures →
+      answerOf other .outcome ≡ Outcome.Screened others → badness (others .verdict) ≤ badness (figures .verdict)
+  no-worse-answer figures others rises answered other-answered =
+      let book = bookOf other in
+      let falls =
+      no-worse book (coefficient book) (rate job) (rate other) (passes other others other-answered .accepted) rises (passes other others other-answered .fields .rate) (criterionOf other) (concentrationOf other)
+      in
+      let here =
+      verdict-is job figures answered
+      ∙ ap₂ (λ by b. judged by b (rate job) (concentrationOf job)) (criterion-same fields-same) book-same
+      ∙ ap (judged (criterionOf other) book (rate job)) (for-reading-same fields-same concentration)
+      in
+      rw (verdict-is other others other-answered, here) falls

@@ -1,0 +1,133 @@
+-- What is worked out from the arrays that the code holds of an accepted book is the book's own: each number and each factor of a member
+-- stands in its place.
+use Prim.Native.Nat.{ℕ, _+_, _*_, _^_, _≤_, _<_}
+use native.Mathlib.Omega.{arith}
+use mathlib.Core.Path.{_≡_, ap, ap₂, _∙_}
+use mathlib.Core.List.{List}
+use lib.ListN.{getD, replicate}
+use Rattle.book.specs.Limits.{maxMembers}
+use Rattle.book.specs.Fields.{members, coefficientCount, coefficient}
+use Rattle.book.specs.declared.table.ChainTable.{ChainTable}
+use Rattle.book.proofs.Ranges.{Ranges, accepted-ranges}
+use Rattle.book.proofs.TableFields.{table-members, table-divisor, table-coefficient}
+use Rattle.balance.specs.Rates.{maxRate}
+use Rattle.balance.specs.Factors.{factorAt, factorList}
+use Rattle.balance.proofs.Promised.{accepted-place, factor-at-most-G}
+use Rattle.screening.specs.Verdict.{inhalation, submersion, boundOf}
+use Rattle.screening.specs.WorkingLevels.{alphaWeight, alphaSum, workingLevels}
+use Rattle.screening.specs.Screening.{assessmentAt, alphaAt, figuresAt, screenedAt}
+use Rattle.screening.specs.Private.Tabled.{numberIn, assessmentIn, judgedOn, Judgeable, WorkingInRange}
+use Rattle.screening.specs.Private.Checks.{Screenable}
+use Rattle.screening.specs.declared.job.Answer.{Answer}
+use Rattle.screening.specs.declared.job.Outcome.{Outcome}
+use Rattle.screening.specs.declared.verdict.Criterion.{Criterion}
+use Rattle.screening.specs.declared.verdict.Judgement.{Judgement}
+use Rattle.screening.specs.declared.verdict.Kind.{Kind}
+use Rattle.screening.specs.declared.working.WorkingLevels.{WorkingLevels}
+use Rattle.screening.proofs.Alike.{alpha-same, judged-same}
+use Rattle.screening.proofs.Falling.{alpha-falls}
+
+inhalation-listed : (kind : Kind) → inhalation kind < coefficientCount
+inhalation-listed Kind.Risk = omega arith
+inhalation-listed Kind.Dose = omega arith
+
+submersion-listed : (kind : Kind) → submersion kind < coefficientCount
+submersion-listed Kind.Risk = omega arith
+submersion-listed Kind.Dose = omega arith
+
+module _ {by : Criterion} {v C : ℕ} {book : List ℕ} {table : ChainTable} (asked : Screenable by v C book table) where
+  ranges : Ranges book
+  ranges = accepted-ranges book (asked .accepted)
+
+  -- the factors at a rate, in an array of zeros
+  abbrev list : ℕ → List ℕ
+  list u = factorList u book (replicate maxMembers 0)
+
+  count-is : table .members ≡ members book
+  count-is = ap (λ t. t .members) (asked .read) ∙ table-members book ranges
+
+  number-is : (i which : ℕ) → i < members book → which < coefficientCount → numberIn (table .coefficients) i which ≡ coefficient book i which
+  number-is i which l w = ap (λ t. numberIn (t .coefficients) i which) (asked .read) ∙ table-coefficient book ranges i l which w
+
+  factor-is : (u : ℕ) → u ≤ maxRate → (i : ℕ) → i < members book → getD (list u) i 0 ≡ factorAt book u i
+  factor-is u within =
+      accepted-place u book (replicate maxMembers 0)
+      (record { rate = within; accepted = asked .accepted; enough = ranges .members-count .to })
+
+  judged-of-book :
+      judgedOn (assessmentIn by (table .members) (table .coefficients) (list v)) C ≡ judgedOn (assessmentAt by book (coefficient book) v) C
+  judged-of-book =
+      ap (λ n. judgedOn (assessmentIn by n (table .coefficients) (list v)) C) count-is
+      ∙ judged-same
+      (members book)
+      (λ i l.
+      ap₂
+      (λ h s. 365 * by .x * h + by .y * s)
+      (number-is i (inhalation (by .kind)) l (inhalation-listed (by .kind)))
+      (number-is i (submersion (by .kind)) l (submersion-listed (by .kind))))
+      (factor-is v (asked .rate))
+      (boundOf by)
+      C
+
+  alpha-of-book : (u : ℕ) → u ≤ maxRate → alphaSum (table .members) (numberIn (table .coefficients)) (λ i. getD (list u) i 0) ≡ alphaAt book (coefficient book) u
+  alpha-of-book u within =
+      ap (λ n. alphaSum n (numberIn (table .coefficients)) (λ i. getD (list u) i 0)) count-is
+      ∙ alpha-same
+      (members book)
+      (numberIn (table .coefficients))
+      (coefficient book)
+      (λ i l. number-is i alphaWeight l (omega arith))
+      (factor-is u within)
+
+  pub some-members : (1 ≤ table .members) × (table .members ≤ maxMembers)
+  some-members = (rw count-is (ranges .members-count .from), rw count-is (ranges .members-count .to))
+
+  -- what the code has made of the factors at the rate and at rate 0
+  module _ {made zeroed : List ℕ} (at-rate : made ≡ list v) (at-zero : zeroed ≡ list 0) where
+    pub judgeable : Judgeable by C (table .members) made
+    judgeable =
+        record {
+          criterion = asked .criterion;
+          concentration = asked .concentration;
+          members = some-members .1;
+          capped = λ i l.
+              let m : i < members book = rw count-is at l in
+              rw (at-rate, factor-is v (asked .rate) i m) (factor-at-most-G book v i (asked .accepted) m);
+        }
+
+    -- what `alpha_sum` answers
+    abbrev Alpha : List ℕ → ℕ → Type 0
+    Alpha factors sum = sum ≡ alphaSum (table .members) (numberIn (table .coefficients)) (λ i. getD factors i 0)
+
+    module _ {atRate atZero : ℕ} (rate : Alpha made atRate) (zero : Alpha zeroed atZero) where
+      rate-is : atRate ≡ alphaAt book (coefficient book) v
+      rate-is = (rw at-rate at rate) ∙ alpha-of-book v (asked .rate)
+
+      zero-is : atZero ≡ alphaAt book (coefficient book) 0
+      zero-is = (rw at-zero at zero) ∙ alpha-of-book 0 (omega arith)
+
+      pub workable : atZero ≤ 2 ^ 117 → WorkingInRange atRate atZero C (table .divisor)
+      workable small =
+          record {
+            falls = rw (rate-is, zero-is) (alpha-falls book (coefficient book) 0 v (asked .accepted) (omega arith) (asked .rate));
+            sums = small;
+            concentration = asked .concentration;
+            some-divisor = rw (asked .read, table-divisor book ranges) (ranges .divisor);
+          }
+
+      pub screened-is :
+          {judged : Judgement} {working : WorkingLevels}
+          → judged ≡ judgedOn (assessmentIn by (table .members) (table .coefficients) made) C
+          → working ≡ workingLevels atRate atZero C (table .divisor)
+          → _≡_ {A = Answer}
+          (record {
+            outcome = Outcome.Screened (record { concentration = C; verdict = judged .verdict; level = judged .level; working = working });
+            factors = made;
+            count = table .members;
+          })
+          (screenedAt by book (coefficient book) v C)
+      unfolding figuresAt
+      screened-is found working =
+          let judged-is = (rw at-rate at found) ∙ judged-of-book in
+          let divisor-is = ap (λ t. t .divisor) (asked .read) ∙ table-divisor book ranges in
+          rw (judged-is, working, rate-is, zero-is, count-is, divisor-is, at-rate)

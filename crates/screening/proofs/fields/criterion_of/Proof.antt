@@ -1,0 +1,30 @@
+-- `screening::fields::criterion_of` meets its contract: each field is what its reader returns of the job or of its exposure, which is within the limits.
+use borrow.Author.Needs.{needs}
+use mathlib.Core.Path.{_≡_, ap, _∙_}
+use mathlib.Core.Bool.{false}
+use Rattle.screening.specs.Exposure.{X, Y, Z, exposureOutOfRange}
+use Rattle.screening.proofs.fields.criterion_of.Statement.{statement}
+use Rattle.screening.proofs.fields.criterion_of.Tie as tie
+
+-- The exposure that was read is the job's, and so within the limits.
+exposed : (c : tie.After-exposure-of) → exposureOutOfRange (c .exposure-of .result) ≡ false
+exposed c = ap exposureOutOfRange (c .exposure-of .ensures) ∙ c .before .before .pre
+
+returns : tie.Need-returns
+returns c =
+    let z = c .before in
+    let y = z .before in
+    let x = y .before in
+    let exposure = x .before .before .exposure-of .ensures in
+    rw (
+      x .before .kind-of .ensures,
+      x .x .ensures .0 ∙ ap X exposure,
+      y .y .ensures .0 ∙ ap Y exposure,
+      z .z .ensures .0 ∙ ap Z exposure,
+      c .target-of .ensures,
+    )
+
+pub criterion-of-spec : {M : Type 1} → statement M
+criterion-of-spec =
+    tie.close
+    (tie.spec (search needs) (search needs) (λ c κs. exposed (c .before)) (search needs) (λ c κs. exposed (c .before .before)) (search needs) (λ c κs. exposed (c .before .before .before)) (search needs) (search needs) returns)

@@ -1,2 +1,0 @@
--- The law of the factor lines.
-mod FactorLines
