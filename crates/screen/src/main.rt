@@ -1,4 +1,5 @@
-// Reads a job and its chain book from standard input, and writes the report.
+// Reads a job and its chain book from the file that its argument names, or from standard input where it has none, and
+// writes the report.
 use libc::STDERR_FILENO;
 use libc::STDIN_FILENO;
 use libc::STDOUT_FILENO;
@@ -9,15 +10,54 @@ use report::REPORT_ROOM;
 const ENOUGH: usize = LONGEST_JOB + 1;
 
 fn main() {
-    let mut input = [0u8; ENOUGH];
-    let n = io::read_full(STDIN_FILENO, &mut input);
-    if !write_report(&input[..n]) {
-        io::write_all(STDERR_FILENO, b"screen: the report could not be written\n");
+    let words = os::arg_count();
+    if words > 2 {
+        io::write_all(STDERR_FILENO, b"usage: screen FILE, or screen < FILE\n");
+    } else if words == 2 {
+        screen_file();
+    } else {
+        screen_input();
     }
 }
 
-fn write_report(job: &[u8]) -> bool {
+fn screen_input() {
+    let mut input = [0u8; ENOUGH];
+    let n = io::read_full(STDIN_FILENO, &mut input);
+    write_report(&input[..n]);
+}
+
+fn screen_file() {
+    let mut path = io::buffer();
+    let length = os::arg(1, &mut path);
+    if os::errno() != 0 {
+        os::fail(b"screen: the file's name");
+        return;
+    }
+    let file = os::open_read(&path[..length]);
+    if file < 0 {
+        os::fail(&path[..length]);
+        return;
+    }
+    screen_open(file, &path[..length]);
+    libc::close(file);
+}
+
+// A read that fails, as that of a folder does, looks like the end of the file; one read more tells the two apart.
+fn screen_open(file: i32, path: &[u8]) {
+    let mut input = [0u8; ENOUGH];
+    let n = io::read_full(file, &mut input);
+    let mut more = [0u8; 1];
+    if libc::read(file, &mut more) < 0 {
+        os::fail(path);
+        return;
+    }
+    write_report(&input[..n]);
+}
+
+fn write_report(job: &[u8]) {
     let mut room = [0u8; REPORT_ROOM];
     let n = report::whole_report(job, &mut room);
-    io::write_all(STDOUT_FILENO, &room[..n])
+    if !io::write_all(STDOUT_FILENO, &room[..n]) {
+        io::write_all(STDERR_FILENO, b"screen: the report could not be written\n");
+    }
 }

@@ -11,7 +11,7 @@ use Rattle.reading.specs.declared.amounts.Reading.{Reading}
 use Rattle.screening.specs.declared.exposure.Group.{Group}
 use Rattle.screening.specs.declared.exposure.Exposure.{Exposure}
 
--- v, in hundredths of an air change per hour.
+-- The rate v stands first, in four bytes; it is in hundredths of an air change per hour.
 abbrev pub rateLength : ℕ
 rateLength = 4
 
