@@ -76,10 +76,10 @@ static void check_factors(void)
         expect(out[2] == MARK, "the place past the factors");
     }
     uint64_t out[2] = {MARK, MARK};
-    expect(jelmorand_factors(100001, book, length, out, 2) == JELMORAND_REFUSED + JELMORAND_RATE_TOO_HIGH, "refusal 3");
-    expect(jelmorand_factors(0, book, 0, out, 2) == JELMORAND_REFUSED + JELMORAND_BOOK_TOO_SHORT, "refusal 9");
-    expect(jelmorand_factors(0, book, length, out, 1) == JELMORAND_REFUSED + JELMORAND_LIST_TOO_SHORT, "refusal 19");
-    expect(jelmorand_factors(0, book, length, out, 0) == JELMORAND_REFUSED + JELMORAND_LIST_TOO_SHORT, "refusal 19 of no list");
+    expect(jelmorand_factors(100001, book, length, out, 2) == -JELMORAND_RATE_TOO_HIGH, "refusal 3");
+    expect(jelmorand_factors(0, book, 0, out, 2) == -JELMORAND_BOOK_TOO_SHORT, "refusal 9");
+    expect(jelmorand_factors(0, book, length, out, 1) == -JELMORAND_LIST_TOO_SHORT, "refusal 19");
+    expect(jelmorand_factors(0, book, length, out, 0) == -JELMORAND_LIST_TOO_SHORT, "refusal 19 of no list");
     expect(out[0] == MARK && out[1] == MARK, "the list after a refusal");
 }
 
@@ -94,7 +94,7 @@ static void check_report(void)
     size_t job_length = 48 + parent_alone(book, 1000);
     memset(out, MARK, sizeof out);
     expect(jelmorand_report(job, job_length, out, length - 1) == 0 && out[0] == MARK, "a room that is too short");
-    expect(jelmorand_report(job, job_length, out, sizeof out) == length, "the report's length");
+    expect(jelmorand_report(job, job_length, out, sizeof out) == (int64_t)length, "the report's length");
     expect(memcmp(out, text, length) == 0, "the report's text");
     expect(out[length] == MARK, "the byte past the report");
     expect(jelmorand_report(job, 47, out, sizeof out) == 10 && memcmp(out, "refused 1\n", 10) == 0, "refusal 1");

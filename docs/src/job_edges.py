@@ -112,3 +112,7 @@ def edges():
         yield data, f'refused {number}\n' if number else 'concentration 0\n'
     for data, number in concentrations():
         yield data, 'refused 8\n' if number == 8 else f'concentration {number}\n'
+
+
+if __name__ == "__main__":
+    print(__doc__)

@@ -14,6 +14,7 @@ import sys
 import job_edges
 import reference as ref
 from packing import bits, pack_book, pack_feed, pack_job, pack_member
+from plain_help import answer_help
 
 SEED = 0x4A656C6D6F72616E
 T1 = 2_495_329_851_600  # the document's T': a factor of one half at rate 100
@@ -624,6 +625,7 @@ def write_cases(path, jobs):
 
 
 def main():
+    answer_help(__doc__)
     if len(sys.argv) != 3:
         sys.exit("usage: make_cases.py CASES EXPECTED")
     jobs = all_jobs()

@@ -9,18 +9,17 @@ the last accepted value and the first refused one for each ground, and cases tha
 import struct
 import sys
 
+from packing import pack_book, pack_feed, pack_member
+from plain_help import answer_help
+
 G = 1 << 40
 MARK = 7  # what every place of the lent list holds before a call
 
 
 def book(members, feeds, w=1000, zeros=bytes(4)):
     """members: (half-life, five numbers, first feed[, three bytes]); feeds: (share, from, next[, two bytes])."""
-    out = bytes([len(members) % 256, len(feeds) % 256]) + struct.pack('<H', w) + zeros
-    for half_life, five, first, *spare in members:
-        out += struct.pack('<Q5I', half_life, *five) + bytes([first]) + (spare[0] if spare else bytes(3))
-    for share, origin, following, *spare in feeds:
-        out += struct.pack('<IBB', share, origin, following) + (spare[0] if spare else bytes(2))
-    return out
+    packed = [pack_member(half_life, *five, *rest) for half_life, five, *rest in members]
+    return pack_book(packed, [pack_feed(*feed) for feed in feeds], W=w, zeros=zeros)
 
 
 NONE = [0] * 5
@@ -134,7 +133,14 @@ def cases():
     yield '18 and 19', 0, 0, split(50000, 50001), 18
 
 
-def main(to_stdin, to_stdout):
+def main():
+    answer_help(__doc__)
+    if len(sys.argv) != 3:
+        sys.exit('usage: make_edges.py STDIN STDOUT')
+    write(*sys.argv[1:])
+
+
+def write(to_stdin, to_stdout):
     records, answers = b'', ''
     for _, rate, room, data, answer in cases():
         records += struct.pack('<IHH', rate, room, len(data)) + data
@@ -152,4 +158,4 @@ def main(to_stdin, to_stdout):
 
 
 if __name__ == '__main__':
-    main(*sys.argv[1:])
+    main()

@@ -30,3 +30,7 @@ def pack_book(members, feeds, W=1_000, n=None, m=None, zeros=b"\0\0\0\0"):
     n = len(members) if n is None else n
     m = len(feeds) if m is None else m
     return struct.pack("<BBH4s", n, m, W, zeros) + b"".join(members) + b"".join(feeds)
+
+
+if __name__ == "__main__":
+    print(__doc__)

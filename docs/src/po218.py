@@ -10,6 +10,7 @@ import sys
 
 import reference as ref
 from packing import pack_book, pack_feed, pack_member
+from plain_help import answer_help
 
 HEAD = "**Table A-3: Radon Activity Equilibrium Factors"
 END = "**APPENDIX B."
@@ -61,6 +62,7 @@ def compare(rows):
 
 
 def main():
+    answer_help(__doc__)
     words = sys.argv[1:]
     if len(words) == 3 and words[0] == "extract":
         rows = column(pathlib.Path(words[1]).read_text(encoding="utf-8"))

@@ -3,12 +3,16 @@
 It follows the document's order and words and shares nothing with the proved program.
 A job on standard input gives the text of `screen` on standard output;
 with --check it also asserts, on that job, what demand 3 promises.
+
+    reference.py [--check] < JOB
 """
 
 import struct
 import sys
 from collections import namedtuple
 from fractions import Fraction
+
+from plain_help import answer_help
 
 
 class Refused(Exception):
@@ -357,6 +361,7 @@ def check(job_bytes):
 
 
 def main():
+    answer_help(__doc__)
     job_bytes = sys.stdin.buffer.read()
     if sys.argv[1:] == ["--check"]:
         check(job_bytes)

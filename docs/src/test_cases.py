@@ -8,6 +8,8 @@ import struct
 import sys
 import types
 
+from plain_help import answer_help
+
 SOURCE = pathlib.Path(__file__).with_name("reference.py").read_text(encoding="utf-8")
 
 # What is wrong, the reference's text, the text put in its place.
@@ -121,6 +123,9 @@ def answers(source, jobs):
 
 
 def main():
+    answer_help(__doc__)
+    if len(sys.argv) != 3:
+        sys.exit("usage: test_cases.py CASES EXPECTED")
     jobs = read_cases(sys.argv[1])
     expected = pathlib.Path(sys.argv[2]).read_text(encoding="ascii")
     right = list(answers(SOURCE, jobs))

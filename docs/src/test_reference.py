@@ -1,10 +1,14 @@
-"""Every row of document 01, and its worked output, against the reference."""
+"""Every row of document 01, and its worked output, against the reference.
+
+    test_reference.py
+"""
 
 import math
 import struct
 
 import reference as ref
 from packing import bits, pack_book, pack_feed, pack_job, pack_member
+from plain_help import answer_help
 
 T1 = 2_495_329_851_600  # the document's T'
 G = 1_099_511_627_776
@@ -135,6 +139,7 @@ def test_f64_bits():
 
 
 def main():
+    answer_help(__doc__)
     tests = [name for name in globals() if name.startswith("test_")]
     for name in tests:
         globals()[name]()

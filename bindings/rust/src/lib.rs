@@ -1,48 +1,86 @@
 //! Chain balance and screening of radon, thoron and actinon indoors.
 //!
-//! Both calls are proved to answer what their contracts in `crates/jelmorand` say, for every input.
-//! What is not proved is this file: that it declares them as they are.
+//! The two functions behind this crate are proved to answer what their contracts in `crates/jelmorand` say, for every input.
+//! What is not proved is this crate: that it declares them as they are, and that it reads a report's text as it should.
+//!
+//! A job is 48 bytes, followed by a chain book; `docs/FORMAT.md` has the bytes. The job here is a gas alone with an inhalation
+//! risk of 1,000, at 1 pCi/L of indoor air in a home, against a target of 1,610 billionths:
+//!
+//! ```
+//! let mut job = Vec::new();
+//! job.extend(0u32.to_le_bytes()); // rate
+//! job.extend([0, 0, 0, 0]); // risk, indoor air, pCi/L, a zero
+//! job.extend(1_610u32.to_le_bytes()); // target
+//! job.extend(1_000_000u32.to_le_bytes()); // attenuation: none
+//! job.extend(1.0f64.to_le_bytes()); // value
+//! job.extend(0.0f64.to_le_bytes()); // uncertainty
+//! for number in [350u16, 6, 24, 10, 350, 20, 24, 20] {
+//!     job.extend(number.to_le_bytes()); // child, then adult: days, years, hours, breathing
+//! }
+//! let mut book = vec![1, 0]; // one member, no feeds
+//! book.extend(1_000u16.to_le_bytes()); // working level divisor
+//! book.extend([0; 4]);
+//! book.extend(1u64.to_le_bytes()); // half-life
+//! book.extend(1_000u32.to_le_bytes()); // inhalation risk
+//! book.extend([0; 20]); // the other numbers, no first feed, zeros
+//! job.extend(&book);
+//!
+//! let report = jelmorand::screen(&job)?;
+//! assert_eq!(report.verdict, jelmorand::Verdict::Below);
+//! assert_eq!((report.concentration, report.level), (37_000, 37_000));
+//! assert_eq!(*report.factors, [1_099_511_627_776]);
+//! assert_eq!(report.working, None);
+//!
+//! let mut factors = [0; jelmorand::MAX_MEMBERS];
+//! assert_eq!(jelmorand::factors(18, &book, &mut factors)?, 1);
+//! let refused = jelmorand::factors(100_001, &book, &mut factors).unwrap_err();
+//! assert_eq!(refused.to_string(), "the rate exceeds 100,000");
+//! # Ok::<(), jelmorand::Refusal>(())
+//! ```
+#![cfg_attr(not(feature = "std"), no_std)]
+#![warn(missing_docs)]
 
 mod refusal;
+mod report;
 
 pub use refusal::Refusal;
+pub use report::{screen, Factors, Report, Verdict, WorkingLevels};
 
 /// The most members that a book has, so the most factors that are written.
 pub const MAX_MEMBERS: usize = 16;
 
 /// No report has more bytes than this.
-const REPORT_ROOM: usize = 1024;
-
-/// A refusal is answered as this plus its number.
-const REFUSED: u32 = 256;
+pub const REPORT_ROOM: usize = 922;
 
 extern "C" {
-    fn jelmorand_factors(v: u32, book: *const u8, book_len: usize, out: *mut u64, out_len: usize) -> u32;
-    fn jelmorand_report(job: *const u8, job_len: usize, out: *mut u8, out_len: usize) -> u64;
+    fn jelmorand_factors(v: u32, book: *const u8, book_len: usize, out: *mut u64, out_len: usize) -> i64;
+    fn jelmorand_report(job: *const u8, job_len: usize, out: *mut u8, out_len: usize) -> i64;
+}
+
+/// The answer itself where it is not negative, and minus the refusal's number otherwise: every call answers so.
+fn answered(answer: i64) -> Result<usize, Refusal> {
+    let refusal = |number: i64| Refusal::from_number(u32::try_from(number).ok()?);
+    usize::try_from(answer).map_err(|_| refusal(-answer).expect("the contracts name no other answer"))
 }
 
 /// The factor of every member of a chain book at rate `v` (hundredths of an air change per hour), in grains of 2^-40 of the
 /// parent's activity, into the first places of `out`. Answers how many; a refusal leaves `out` as it was.
 pub fn factors(v: u32, book: &[u8], out: &mut [u64]) -> Result<usize, Refusal> {
     // A slice's pointer is never null, is aligned and has its length of elements behind it, and `out` is borrowed alone.
-    let answer = unsafe { jelmorand_factors(v, book.as_ptr(), book.len(), out.as_mut_ptr(), out.len()) };
-    if answer < REFUSED {
-        return Ok(answer as usize);
-    }
-    Err(Refusal::from_number(answer - REFUSED).expect("the contract names no other answer"))
+    answered(unsafe { jelmorand_factors(v, book.as_ptr(), book.len(), out.as_mut_ptr(), out.len()) })
 }
 
 /// The report of a whole job, the job's 48 bytes and its chain book: the lines that `screen` writes.
+#[cfg(feature = "std")]
 pub fn report(job: &[u8]) -> String {
     let mut room = [0; REPORT_ROOM];
-    let length = report_into(job, &mut room).expect("no report is longer");
-    String::from_utf8(room[..length].to_vec()).expect("a report is ASCII")
+    report::text(job, &mut room).to_owned()
 }
 
 /// The report of a whole job, written to the start of `out`. Answers its length; `None` where it is longer than `out`,
-/// which is then as it was.
+/// which is then as it was. `REPORT_ROOM` bytes suffice for any.
 pub fn report_into(job: &[u8], out: &mut [u8]) -> Option<usize> {
     // As in `factors`.
-    let length = unsafe { jelmorand_report(job.as_ptr(), job.len(), out.as_mut_ptr(), out.len()) };
-    (length != 0).then_some(length as usize)
+    let answer = unsafe { jelmorand_report(job.as_ptr(), job.len(), out.as_mut_ptr(), out.len()) };
+    answered(answer).ok().filter(|length| *length != 0)
 }

@@ -1,1 +1,2 @@
-pub mod CodeRanges
+pub mod Signed
+pub mod Ranges

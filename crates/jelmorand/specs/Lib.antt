@@ -1,1 +1,1 @@
-pub mod FactorCode
+pub mod Answers

@@ -70,8 +70,12 @@ fn put(book: &mut [u8], at: usize, bytes: &[u8]) {
     }
 }
 
-/// One change of a book, aimed at one of the grounds or at nothing in particular.
+/// One change of a book, aimed at one of the grounds or at nothing in particular. The book may be damaged already, so its counts
+/// need not be those of its bytes; what has lost its counts or says that it has no members stays as it is.
 pub fn damage(random: &mut Random, book: &mut Vec<u8>) {
+    if book.len() < 2 || book[0] == 0 {
+        return;
+    }
     let (n, m) = (u64::from(book[0]), u64::from(book[1]));
     let member = 8 + 32 * random.within(0, n - 1) as usize;
     let feed = (8 + 32 * n + 8 * random.within(0, m.max(1) - 1)) as usize;
@@ -105,7 +109,9 @@ fn unfeed_or_feed_the_parent(random: &mut Random, book: &mut [u8]) {
     }
     let first = 8 + 28;
     let later = first + 32 * random.within(1, n - 1) as usize;
-    book.swap(first, later);
+    if later < book.len() {
+        book.swap(first, later);
+    }
 }
 
 /// A good book, or one with a change or two.
@@ -113,7 +119,7 @@ pub fn any_book(random: &mut Random) -> Vec<u8> {
     let mut book = good_book(random);
     if random.one_in(2) {
         damage(random, &mut book);
-        if random.one_in(8) && book.len() > 8 && (1..=16).contains(&book[0]) {
+        if random.one_in(8) {
             damage(random, &mut book);
         }
     }

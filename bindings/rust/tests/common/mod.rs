@@ -2,6 +2,7 @@
 #![allow(dead_code)]
 
 pub mod books;
+pub mod edge_jobs;
 pub mod plain;
 pub mod plain_job;
 pub mod random;

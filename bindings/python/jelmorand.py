@@ -1,0 +1,176 @@
+"""Chain balance and screening of radon, thoron and actinon indoors, from the proved library.
+
+    import jelmorand
+    report = jelmorand.screen(open("room.job", "rb").read())
+    print(report.verdict, report.concentration, report.level)
+
+A job is 48 bytes, followed by a chain book; docs/FORMAT.md has the bytes. The shared object is the file that JELMORAND_SO names,
+or libjelmorand.so beside this file. The functions in it are proved to answer what their contracts in crates/jelmorand say, for
+every input; this module, which calls them and reads a report's text, is not proved.
+"""
+
+import ctypes
+import dataclasses
+import os
+import pathlib
+from typing import List, Optional, Union
+
+Bytes = Union[bytes, bytearray, memoryview]
+
+MAX_MEMBERS = 16
+"""The most members that a book has."""
+
+REPORT_ROOM = 922
+"""No report has more bytes than this."""
+
+GROUNDS = {
+    1: "the job has fewer than 48 bytes",
+    2: "kind, medium or unit is not a listed value, or the job's zero byte is not zero",
+    3: "the rate exceeds 100,000",
+    4: "the target exceeds 1,000,000,000",
+    5: "the attenuation exceeds 1,000,000, or is not 1,000,000 for indoor air",
+    6: "a group has days over 366, years over 100, hours over 24 or breathing over 100, or both groups have 0 years",
+    7: "value or uncertainty has its sign bit set (minus zero too), is infinite or is not a number",
+    8: "a converted part, their sum or the concentration exceeds 4,000,000,000 mBq/m3",
+    9: "the book has fewer than 8 bytes",
+    10: "the book does not have 1 to 16 members, or has over 64 feeds",
+    11: "the book is not 8 bytes long with 32 more a member and 8 more a feed",
+    12: "the working level divisor is 0, or one of the book's zero bytes is not zero",
+    13: "a member's half-life is 0 or too long, or one of its five numbers exceeds 4,000,000,000",
+    14: "a share is not 1 to 100,000, a from is not a member, or a first or next is not a feed",
+    15: "a feed comes up twice along the members' feeds, or never",
+    16: "the parent gas has a feed, or a later member has none",
+    17: "a feed does not come from a lower member than the one it feeds",
+    18: "the shares out of one member add up to over 100,000",
+    19: "the lent list has fewer places than the book has members",
+}
+"""The grounds for refusal by number, in checking order, in the words of the C header."""
+
+
+class Refused(ValueError):
+    """A job or a factor call that is refused, for the first of the grounds that is met.
+
+    `number` is the ground's number, the one that a report prints, and `sentence` says what is wrong.
+    """
+
+    number: int
+    sentence: str
+
+    def __init__(self, number: int) -> None:
+        self.number = number
+        self.sentence = GROUNDS[number]
+        super().__init__(f"refused {number}: {self.sentence}")
+
+    def __reduce__(self):
+        return Refused, (self.number,)
+
+
+@dataclasses.dataclass(frozen=True)
+class WorkingLevels:
+    """The equilibrium factor, in millionths, and millionths of a working level."""
+
+    equilibrium: int
+    micro: int
+
+
+@dataclasses.dataclass(frozen=True)
+class Report:
+    """What an accepted job's report says.
+
+    factors: every member's factor in grains of 2^-40 of the parent's activity, the parent first.
+    concentration: the parent's concentration in indoor air, mBq/m3.
+    verdict: 'below', 'close' or 'above': whether the risk or the yearly dose passes the target.
+    level: the screening level, the highest concentration that is 'below', mBq/m3.
+    working: None where no later member of the chain has alpha energy without ventilation.
+    """
+
+    factors: List[int]
+    concentration: int
+    verdict: str
+    level: int
+    working: Optional[WorkingLevels]
+
+
+def _shared_object() -> pathlib.Path:
+    """The whole path of the shared object: a name without a folder would be looked for among the system's libraries."""
+    named = os.environ.get("JELMORAND_SO")
+    path = pathlib.Path(named).resolve() if named else pathlib.Path(__file__).resolve().with_name("libjelmorand.so")
+    if not path.is_file():
+        raise ImportError(f"{path} is not there: bindings/README.md says how to make it; JELMORAND_SO can name another file")
+    return path
+
+
+def _library() -> ctypes.CDLL:
+    """The shared object, with the types of its two functions."""
+    library = ctypes.CDLL(str(_shared_object()))
+    size, byte_list = ctypes.c_size_t, ctypes.c_char_p
+    library.jelmorand_factors.argtypes = [ctypes.c_uint32, byte_list, size, ctypes.POINTER(ctypes.c_uint64), size]
+    library.jelmorand_factors.restype = ctypes.c_int64
+    library.jelmorand_report.argtypes = [byte_list, size, ctypes.POINTER(ctypes.c_char), size]
+    library.jelmorand_report.restype = ctypes.c_int64
+    return library
+
+
+_LIBRARY = _library()
+
+
+def _answered(answer: int) -> int:
+    """The answer itself where it is not negative, and minus the refusal's number otherwise: every call answers so."""
+    if answer < 0:
+        raise Refused(-answer)
+    return answer
+
+
+def _plain(data: Bytes, what: str) -> bytes:
+    """The bytes themselves: a number would be taken for a count of zeros."""
+    if not isinstance(data, (bytes, bytearray, memoryview)):
+        raise TypeError(f"{what} is bytes, not {type(data).__name__}")
+    return bytes(data)
+
+
+def factors(v: int, book: Bytes) -> List[int]:
+    """The factor of every member of a chain book at rate `v`, in grains of 2^-40 of the parent's activity, the parent first.
+
+    v: hundredths of an air change per hour, 0 to 100,000.
+    book: the bytes of the chain book.
+    Raises Refused where the rate is too high or the book is not accepted, and ValueError for a rate below 0.
+    """
+    if v < 0:
+        raise ValueError(f"the rate is {v}: a rate is not negative")
+    data = _plain(book, "book")
+    places = (ctypes.c_uint64 * MAX_MEMBERS)()
+    # A rate of 33 bits or more would be cut; it is refused as the largest rate is.
+    count = _answered(_LIBRARY.jelmorand_factors(min(v, 2**32 - 1), data, len(data), places, MAX_MEMBERS))
+    return list(places[:count])
+
+
+def report(job: Bytes) -> str:
+    """The lines that the program `screen` writes of a whole job: its 48 bytes and its chain book."""
+    data = _plain(job, "job")
+    room = ctypes.create_string_buffer(REPORT_ROOM)
+    length = _LIBRARY.jelmorand_report(data, len(data), room, REPORT_ROOM)
+    return room.raw[:length].decode("ascii")
+
+
+def screen(job: Bytes) -> Report:
+    """The report of a whole job as fields. Raises Refused where the job is refused."""
+    return _read(report(job))
+
+
+def _read(text: str) -> Report:
+    """A report's fields from its text."""
+    lines = [line.split(" ") for line in text.splitlines()]
+    if lines[0][0] == "refused":
+        raise Refused(int(lines[0][1]))
+    word = {line[0]: line[1] for line in lines if line[0] != "factor"}
+    return Report(
+        factors=[int(line[2]) for line in lines if line[0] == "factor"],
+        concentration=int(word["concentration"]),
+        verdict=word["verdict"],
+        level=int(word["level"]),
+        working=_working(word["equilibrium"], word["working"]),
+    )
+
+
+def _working(equilibrium: str, micro: str) -> Optional[WorkingLevels]:
+    return None if equilibrium == "none" else WorkingLevels(int(equilibrium), int(micro))

@@ -1,0 +1,137 @@
+"""The Python module against the recorded cases, the stored examples, the C header and document 01's rows.
+
+    JELMORAND_SO=target/bindings/libjelmorand.so python3 bindings/python/test_jelmorand.py
+"""
+
+import os
+import pathlib
+import pickle
+import re
+import struct
+import subprocess
+import sys
+import unittest
+
+ROOT = pathlib.Path(__file__).resolve().parents[2]
+sys.path.insert(0, str(ROOT / "docs" / "src"))
+
+import jelmorand
+import reference
+from packing import bits, pack_book, pack_feed, pack_job, pack_member
+
+GRAINS = 1 << 40
+
+
+def recorded_jobs():
+    data = (ROOT / "crates" / "cases" / "stdin").read_bytes()
+    at = 0
+    while at < len(data):
+        (length,) = struct.unpack_from("<H", data, at)
+        yield data[at + 2 : at + 2 + length]
+        at += 2 + length
+
+
+def text_of(report):
+    """The text that a report with these fields has."""
+    working = report.working
+    lines = [f"factor {i} {grains}" for i, grains in enumerate(report.factors)]
+    lines += [f"concentration {report.concentration}", f"verdict {report.verdict}", f"level {report.level}"]
+    lines += [f"equilibrium {working.equilibrium if working else 'none'}", f"working {working.micro if working else 'none'}"]
+    return "".join(line + "\n" for line in lines)
+
+
+def screened(job):
+    try:
+        return text_of(jelmorand.screen(job))
+    except jelmorand.Refused as refused:
+        return f"refused {refused.number}\n"
+
+
+class Factors(unittest.TestCase):
+    BOOK = pack_book([pack_member(1), pack_member(2_495_329_851_600, first=1)], [pack_feed(100_000, 0)])
+
+    def test_rows(self):
+        for v, factor in ((0, GRAINS), (100, 549_755_813_888), (200, 366_503_875_925)):
+            self.assertEqual(jelmorand.factors(v, self.BOOK), [GRAINS, factor])
+
+    def test_recorded_books(self):
+        """Every recorded book at several rates: the list, or the refusal's number."""
+        for job in recorded_jobs():
+            for v in (0, 18, 100_001):
+                expected = reference.factor_call(v, job[48:], jelmorand.MAX_MEMBERS)
+                try:
+                    answer = jelmorand.factors(v, job[48:])
+                except jelmorand.Refused as refused:
+                    answer = refused.number
+                self.assertEqual(answer, expected)
+
+    def test_rates_out_of_range(self):
+        for v in (100_001, 2**32 - 1, 2**32, 2**64 + 18):
+            with self.assertRaises(jelmorand.Refused) as caught:
+                jelmorand.factors(v, self.BOOK)
+            self.assertEqual(caught.exception.number, 3)
+        with self.assertRaises(ValueError):
+            jelmorand.factors(-1, self.BOOK)
+
+    def test_kinds_of_bytes(self):
+        for kind in (bytearray, memoryview):
+            self.assertEqual(jelmorand.factors(100, kind(self.BOOK)), jelmorand.factors(100, self.BOOK))
+        for wrong in (8, "book", None, [1, 0]):
+            with self.assertRaises(TypeError):
+                jelmorand.factors(100, wrong)
+
+
+class Reports(unittest.TestCase):
+    def test_recorded_jobs(self):
+        texts = [screened(job) for job in recorded_jobs()]
+        self.assertEqual("".join(texts), (ROOT / "crates" / "cases" / "stdout").read_text("ascii"))
+
+    def test_examples(self):
+        for name in ("radon", "thoron", "actinon"):
+            example = ROOT / "examples" / name
+            self.assertEqual(jelmorand.report(example.with_suffix(".job").read_bytes()), example.with_suffix(".out").read_text("ascii"))
+
+    def test_parent_alone(self):
+        job = pack_job(unit=0, target=1_610, value=bits(1.0)) + pack_book([pack_member(1, inhalation_risk=1_000)], [])
+        self.assertEqual(jelmorand.screen(job), jelmorand.Report([GRAINS], 37_000, "below", 37_000, None))
+
+
+class Refusals(unittest.TestCase):
+    HEADER = (ROOT / "bindings" / "c" / "jelmorand.h").read_text("ascii")
+
+    def test_sentences_are_the_header_s(self):
+        listed = re.findall(r"/\* (.*) \*/\n    JELMORAND_[A-Z_]+ = (\d+)", self.HEADER)
+        self.assertEqual({int(number): sentence for sentence, number in listed}, jelmorand.GROUNDS)
+        self.assertEqual(list(jelmorand.GROUNDS), list(range(1, 20)))
+
+    def test_sizes_are_the_header_s(self):
+        self.assertIn(f"#define JELMORAND_REPORT_ROOM {jelmorand.REPORT_ROOM}\n", self.HEADER)
+        self.assertIn(f"#define JELMORAND_MAX_MEMBERS {jelmorand.MAX_MEMBERS}\n", self.HEADER)
+
+    def test_what_is_raised(self):
+        with self.assertRaises(jelmorand.Refused) as caught:
+            jelmorand.screen(b"")
+        refused = caught.exception
+        self.assertEqual((refused.number, refused.sentence), (1, "the job has fewer than 48 bytes"))
+        self.assertEqual(str(refused), "refused 1: the job has fewer than 48 bytes")
+        self.assertEqual(pickle.loads(pickle.dumps(refused)).number, 1)
+
+
+class SharedObject(unittest.TestCase):
+    def imported(self, folder, shared_object):
+        """What importing the module in that folder with that JELMORAND_SO writes to standard error."""
+        environment = dict(os.environ, JELMORAND_SO=shared_object, PYTHONPATH=str(pathlib.Path(__file__).resolve().parent))
+        made = subprocess.run([sys.executable, "-B", "-c", "import jelmorand"], cwd=folder, env=environment, capture_output=True, text=True)
+        return made.stderr
+
+    def test_relative_name(self):
+        """A name without a folder means the file in the folder one is in."""
+        used = pathlib.Path(jelmorand._shared_object())
+        self.assertEqual(self.imported(used.parent, used.name), "")
+
+    def test_missing_file(self):
+        self.assertIn("ImportError: /nowhere/libjelmorand.so is not there", self.imported("/", "/nowhere/libjelmorand.so"))
+
+
+if __name__ == "__main__":
+    unittest.main()

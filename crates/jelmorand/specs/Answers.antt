@@ -1,0 +1,28 @@
+-- The number that a caller in another language gets: the answer itself where it is not negative, and minus document 01's number
+-- of the refusal otherwise.
+use Prim.Native.Nat.{ℕ}
+use mathlib.Core.List.{List}
+use lib.IntN.{ℤ, pos, negℤ}
+use Rattle.refusals.specs.Grounds.{refusalNumber}
+use Rattle.refusals.specs.declared.Refusal.{Refusal}
+use Rattle.balance.specs.Factors.{factorAnswer}
+use Rattle.balance.specs.declared.FactorAnswer.{FactorAnswer}
+use Rattle.text.specs.Lent.{lengthWritten}
+use Rattle.report.specs.Report.{reportOf}
+
+abbrev pub refusedAs : Refusal → ℤ
+refusedAs refusal = negℤ (pos (refusalNumber refusal))
+
+-- How many factors were written, or the refusal.
+abbrev pub numberOf : FactorAnswer → ℤ
+numberOf (FactorAnswer.Filled n) = pos n
+numberOf (FactorAnswer.Refused refusal) = refusedAs refusal
+
+-- What the factor call answers for a rate, a book and a list of so many places.
+abbrev pub factorsNumber : ℕ → List ℕ → ℕ → ℤ
+factorsNumber v book room = numberOf (factorAnswer v book room)
+
+-- What the report call answers for a job and so many places: the length of the report, which is one line where the job is refused,
+-- or 0 where there is no room for it.
+abbrev pub reportNumber : List ℕ → ℕ → ℤ
+reportNumber job room = pos (lengthWritten (reportOf job) room)
