@@ -1,23 +1,22 @@
 -- An accepted book means a sound chain.
 -- Ground 17 says that feeds come from lower members. Ground 18 bounds the shares of feeds 1 to m out of each member, and the members' feeds are these, each once.
-use Prim.Native.Nat.{ℕ, zero, suc, _+_, _≤_, _<_}
+use Prim.Native.Nat.{ℕ, zero, suc, _≤_, _<_}
 use native.Mathlib.Nat.{le-of-eq, le-trans}
 use native.Mathlib.Omega.{arith}
-use mathlib.Core.Path.{_≡_, refl, ap}
-use mathlib.Core.Bool.{false, cond}
+use mathlib.Core.Path.{_≡_, refl}
+use mathlib.Core.Bool.{false}
 use mathlib.Core.List.{List, [], _∷_, map, map-append}
-use lib.Dec.{eqb, leb}
+use lib.Dec.{leb}
 use borrow.Author.Tests.{leb-false}
-use Rattle.book.specs.Fields.{members, feedCount, scaleOf, share, from, feedsOf}
+use Rattle.book.specs.Fields.{members, feedCount, scaleOf, from, feedsOf}
 use Rattle.book.specs.Tests.{someIn}
-use Rattle.book.specs.BookGrounds.{walk, sharesOut, feedNotFromLower, Accepted}
+use Rattle.book.specs.BookGrounds.{walk, shareOut, feedNotFromLower, Accepted}
 use Rattle.balance.specs.Chain.{feedOf, chainOf}
 use Rattle.balance.specs.Private.Sound.{Sound, FromBelow, sharesFrom, feedsBelow}
 use Rattle.refusals.proofs.FirstMet.{neither}
 use Rattle.book.proofs.NoneMet.{none-below}
 use Rattle.book.proofs.BookPasses.{accepted-passes}
 use Rattle.book.proofs.Ranges.{accepted-ranges}
-use Rattle.balance.proofs.Origin.{sumBelow}
 use Rattle.balance.proofs.Walk.{Listed}
 use Rattle.balance.proofs.OnceEach.{sumOver, once-each}
 use Rattle.balance.proofs.BookFeeds.{walk-listed}
@@ -35,19 +34,10 @@ module _ (book : List ℕ) where
   feeds-walked zero = refl
   feeds-walked (suc k) = rw (feeds-walked k, map-append)
 
-  -- The share that leaves member i at a feed's place.
-  abbrev shareOut : ℕ → ℕ → ℕ
-  shareOut i j = cond (eqb (from book (suc j)) i) (share book (suc j)) 0
-
-  shares-listed : (i m : ℕ) (js : List ℕ) → Listed m js → sharesFrom i (map (feedOf book) js) ≡ sumOver (shareOut i) js
+  shares-listed : (i m : ℕ) (js : List ℕ) → Listed m js → sharesFrom i (map (feedOf book) js) ≡ sumOver (λ j. shareOut book i (suc j)) js
   shares-listed i m [] listed = refl
   shares-listed i m (zero ∷ js) listed = absurd (omega (arith, listed .0))
   shares-listed i m (suc j ∷ js) listed = let ih = shares-listed i m js (listed .2) in omega arith
-
-  shares-summed : (i m : ℕ) → sumBelow (shareOut i) m ≡ sharesOut book i m
-  unfolding sharesOut
-  shares-summed i zero = refl
-  shares-summed i (suc m) = ap (λ y. y + shareOut i m) (shares-summed i m)
 
   module _ (accepted : Accepted book) where
     shares-at-most : (i : ℕ) → i < members book → sharesFrom i (feedsBelow (chainOf book) (members book)) ≤ scaleOf book
@@ -58,8 +48,8 @@ module _ (book : List ℕ) where
         let listed = walk-listed book accepted in
         rw (feeds-walked (members book), shares-listed i m js listed)
         (le-trans
-        (once-each (shareOut i) m js listed (λ j h. le-of-eq (ranges .feed j h .once)))
-        (rw (shares-summed i m) (ranges .member i l .shares-out)))
+        (once-each (λ j. shareOut book i (suc j)) m js listed (λ j h. le-of-eq (ranges .feed j h .once)))
+        (ranges .member i l .shares-out))
 
     pub accepted-sound : Sound (scaleOf book) (chainOf book)
     unfolding feedNotFromLower

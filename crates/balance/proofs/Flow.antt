@@ -9,7 +9,9 @@ use mathlib.Core.List.{List, [], _∷_, _++_}
 use Rattle.balance.specs.Chain.{Feed, Chain}
 use Rattle.balance.specs.Private.Sound.{FromBelow, sharesFrom, feedsBelow, Sound}
 use Rattle.balance.proofs.Inflow.{inflowOf, inflow-append}
-use Rattle.balance.proofs.Origin.{sumBelow, sum-le, sum-scaled, inflow-by-origin}
+use Rattle.book.specs.Sums.{sumBelow}
+use Rattle.book.proofs.Sums.{sum-mono, sum-scale}
+use Rattle.balance.proofs.Origin.{inflow-by-origin}
 
 shares-append : (i : ℕ) (feeds more : List Feed) → sharesFrom i (feeds ++ more) ≡ sharesFrom i feeds + sharesFrom i more
 shares-append i [] more = omega arith
@@ -38,19 +40,20 @@ module _ {scale : ℕ} {chain : Chain} (sound : Sound scale chain) where
       let earlier = from-below-mono (feedsBelow chain (suc n)) (le-suc n) (feeds-from-below n (omega arith)) in
       from-below-append (suc n) (feedsBelow chain (suc n)) (chain .feeds (suc n)) earlier (sound .from-lower (suc n) l)
 
-  all-inflows : (a : ℕ → ℕ) (n : ℕ) → n < chain .count → inflowOf a (feedsBelow chain (suc n)) ≤ scale * sumBelow a n
+  all-inflows : (a : ℕ → ℕ) (n : ℕ) → n < chain .count → inflowOf a (feedsBelow chain (suc n)) ≤ scale * sumBelow n a
   all-inflows a n l =
       let feeds = feedsBelow chain (suc n) in
       let sorted = inflow-by-origin a n feeds (feeds-from-below n l) in
-      let most : (i : ℕ) → i < n → sharesFrom i feeds * a i ≤ scale * a i = λ i h. mul-le-mul-right (a i) (shares-below i (suc n) l (omega arith)) in
-      omega (arith, sum-le (λ i. sharesFrom i feeds * a i) (λ i. scale * a i) n most, sum-scaled scale a n)
+      let most : (i : ℕ) → i < n → sharesFrom i feeds * a i ≤ a i * scale = λ i h. omega (arith, mul-le-mul-right (a i) (shares-below i (suc n) l (omega arith))) in
+      omega (arith, sum-mono n most, sum-scale n scale a)
 
   module _ (a : ℕ → ℕ) (β : ℕ) where
     -- Of the members after the first, up to n.
     abbrev pub AtMostInflow : ℕ → Type 0
     AtMostInflow n = (k : ℕ) → k < n → scale * a (suc k) ≤ inflowOf a (chain .feeds (suc k)) + β
 
-    added-up : (n : ℕ) → AtMostInflow n → scale * sumBelow a (suc n) ≤ scale * a 0 + inflowOf a (feedsBelow chain (suc n)) + n * β
+    added-up : (n : ℕ) → AtMostInflow n → scale * sumBelow (suc n) a ≤ scale * a 0 + inflowOf a (feedsBelow chain (suc n)) + n * β
+    unfolding sumBelow
     added-up zero each = omega arith
     added-up (suc n) each =
         let ih = added-up n (λ k l. each k (omega arith)) in
@@ -58,6 +61,7 @@ module _ {scale : ℕ} {chain : Chain} (sound : Sound scale chain) where
 
     pub inflow-bound :
         (n : ℕ) → suc n < chain .count → AtMostInflow n → inflowOf a (chain .feeds (suc n)) ≤ scale * a 0 + n * β
+    unfolding sumBelow
     inflow-bound n l each =
         let split = inflow-append a (feedsBelow chain (suc n)) (chain .feeds (suc n)) in
         omega (arith, added-up n each, all-inflows a (suc n) l)

@@ -1,6 +1,6 @@
 -- A list in which each of 1 to m comes up at most once, and nothing else, adds up to no more than 1 to m do.
 -- Feed j stands at place j - 1, and a list of places is sorted as feeds are by origin, each with a share of one.
-use Prim.Native.Nat.{ℕ, zero, suc, _*_, _≤_, _<_}
+use Prim.Native.Nat.{ℕ, zero, suc, _≤_, _<_}
 use native.Mathlib.Nat.{mul-le-mul-right, le-trans}
 use native.Mathlib.Omega.{arith}
 use mathlib.Core.Path.{_≡_, refl, sym, _∙_}
@@ -11,7 +11,9 @@ use Rattle.balance.specs.Chain.{Feed}
 use Rattle.balance.specs.Private.Sound.{FromBelow, sharesFrom}
 use Rattle.book.specs.BookGrounds.{occurrences}
 use Rattle.balance.proofs.Inflow.{inflowOf}
-use Rattle.balance.proofs.Origin.{sumBelow, sum-le, inflow-by-origin}
+use Rattle.book.specs.Sums.{sumBelow}
+use Rattle.book.proofs.Sums.{sum-mono}
+use Rattle.balance.proofs.Origin.{inflow-by-origin}
 use Rattle.balance.proofs.Walk.{Listed}
 
 abbrev places : List ℕ → List Feed
@@ -44,13 +46,11 @@ pub once-each :
     (a : ℕ → ℕ) (m : ℕ) (js : List ℕ)
     → Listed m js
     → ((j : ℕ) → j < m → occurrences (suc j) js ≤ 1)
-    → sumOver a js ≤ sumBelow a m
+    → sumOver a js ≤ sumBelow m a
 once-each a m js listed once =
     le-trans
     (inflow-by-origin a m (places js) (places-below m js listed))
-    (sum-le
-    (λ i. sharesFrom i (places js) * a i)
-    a
+    (sum-mono
     m
     (λ i l.
     let few : sharesFrom i (places js) ≤ 1 = rw (places-count i js) (once i l) in
@@ -62,8 +62,9 @@ length-sum m (zero ∷ js) listed = absurd (omega (arith, listed .0))
 length-sum m (suc j ∷ js) listed = let ih = length-sum m js (listed .2) in omega arith
 
 pub length-at-most : (m : ℕ) (js : List ℕ) → Listed m js → ((j : ℕ) → j < m → occurrences (suc j) js ≤ 1) → length js ≤ m
+unfolding sumBelow
 length-at-most m js listed once = omega (arith, length-sum m js listed, once-each (λ j. 1) m js listed once, ones m)
   where
-    ones : (m : ℕ) → sumBelow (λ j. 1) m ≡ m
+    ones : (m : ℕ) → sumBelow m (λ j. 1) ≡ m
     ones zero = refl
     ones (suc m) = let ih = ones m in omega arith

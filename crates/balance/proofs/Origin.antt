@@ -9,24 +9,11 @@ use mathlib.Core.Logic.{_⊎_, inl, inr}
 use mathlib.Core.List.{List, [], _∷_}
 use lib.Dec.{eqb}
 use borrow.Author.Tests.{eq-eqb}
+use Rattle.book.specs.Sums.{sumBelow}
+use Rattle.book.proofs.Sums.{sum-mono}
 use Rattle.balance.specs.Chain.{Feed}
 use Rattle.balance.specs.Private.Sound.{FromBelow, sharesFrom}
 use Rattle.balance.proofs.Inflow.{inflowOf}
-
--- a 0 + .. + a (n - 1)
-abbrev pub sumBelow : (ℕ → ℕ) → ℕ → ℕ
-sumBelow a zero = 0
-sumBelow a (suc n) = sumBelow a n + a n
-
-pub sum-le : (a b : ℕ → ℕ) (n : ℕ) → ((k : ℕ) → k < n → a k ≤ b k) → sumBelow a n ≤ sumBelow b n
-sum-le a b zero each = omega arith
-sum-le a b (suc n) each =
-    let ih = sum-le a b n (λ k l. each k (omega arith)) in
-    omega (arith, each n (omega arith))
-
-pub sum-scaled : (s : ℕ) (a : ℕ → ℕ) (n : ℕ) → sumBelow (λ k. s * a k) n ≡ s * sumBelow a n
-sum-scaled s a zero = omega arith
-sum-scaled s a (suc n) = let ih = sum-scaled s a n in omega arith
 
 -- One feed's part of a sum over the members that feeds leave.
 leaving : (feed : Feed) (i : ℕ) → feed .from ≡ i → cond (eqb (feed .from) i) (feed .share) 0 ≡ feed .share
@@ -36,24 +23,25 @@ module _ (a b : ℕ → ℕ) (feed : Feed) where
   abbrev withFeed : ℕ → ℕ
   withFeed i = (cond (eqb (feed .from) i) (feed .share) 0 + b i) * a i
 
-  feed-in-sum : (n : ℕ) → feed .from < n → feed .share * a (feed .from) + sumBelow (λ i. b i * a i) n ≤ sumBelow withFeed n
+  feed-in-sum : (n : ℕ) → feed .from < n → feed .share * a (feed .from) + sumBelow n (λ i. b i * a i) ≤ sumBelow n withFeed
+  unfolding sumBelow
   feed-in-sum zero l = absurd (omega arith)
   feed-in-sum (suc n) l = at-or-before (eq-or-lt-of-le (le-of-suc-le-suc l)) (feed-in-sum n)
     where
       at-or-before :
           (feed .from ≡ n) ⊎ (feed .from < n)
-          → (feed .from < n → feed .share * a (feed .from) + sumBelow (λ i. b i * a i) n ≤ sumBelow withFeed n)
-          → feed .share * a (feed .from) + (sumBelow (λ i. b i * a i) n + b n * a n) ≤ sumBelow withFeed n + withFeed n
+          → (feed .from < n → feed .share * a (feed .from) + sumBelow n (λ i. b i * a i) ≤ sumBelow n withFeed)
+          → feed .share * a (feed .from) + (sumBelow n (λ i. b i * a i) + b n * a n) ≤ sumBelow n withFeed + withFeed n
       at-or-before (inl e) earlier =
           let here = ap (λ s. s * a n) (leaving feed n e) in
           let same = ap (λ j. feed .share * a j) e in
-          let rest = sum-le (λ i. b i * a i) withFeed n (λ k l. mul-le-mul-right (a k) (omega arith)) in
+          let rest = sum-mono n {f = λ i. b i * a i} {g = withFeed} (λ k l. mul-le-mul-right (a k) (omega arith)) in
           omega arith
       at-or-before (inr l) earlier = omega (arith, earlier l, mul-le-mul-right (a n) (le-add-left (b n) (cond (eqb (feed .from) n) (feed .share) 0)))
 
 -- Sorted by the member that they leave.
 pub inflow-by-origin :
-    (a : ℕ → ℕ) (n : ℕ) (feeds : List Feed) → FromBelow n feeds → inflowOf a feeds ≤ sumBelow (λ i. sharesFrom i feeds * a i) n
+    (a : ℕ → ℕ) (n : ℕ) (feeds : List Feed) → FromBelow n feeds → inflowOf a feeds ≤ sumBelow n (λ i. sharesFrom i feeds * a i)
 inflow-by-origin a n [] below = omega arith
 inflow-by-origin a n (feed ∷ feeds) below =
     let ih = inflow-by-origin a n feeds (below .1) in

@@ -4,7 +4,8 @@
 pub mod NoneMet
 pub mod BookPasses
 pub mod Ranges
--- The loops of the checks.
+-- The loops of the checks, and sums.
+pub mod Sums
 pub mod Tested
 pub mod Along
 pub mod Sought

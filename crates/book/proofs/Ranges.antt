@@ -30,7 +30,7 @@ pub record MemberRanges (book : List ℕ) (i : ℕ) : Type 0 where
   pub half-life : InRange 1 (longest i) (halfLife book i)
   pub coefficients : (which : ℕ) → which < 5 → coefficient book i which ≤ maxCoefficient
   pub first : firstFeed book i ≤ feedCount book
-  pub shares-out : sharesOut book i (feedCount book) ≤ scaleOf book
+  pub shares-out : sharesOut book i ≤ scaleOf book
 
 -- Of feed j, counted from 1.
 pub record FeedRanges (book : List ℕ) (j : ℕ) : Type 0 where
@@ -73,7 +73,7 @@ module _ (book : List ℕ) (passes : BookPasses book) where
         half-life = within 1 (longest i) (halfLife book i) (numbers .0);
         coefficients = λ which h. ltb-false maxCoefficient (coefficient book i which) (none-below 5 _ (numbers .1) which h);
         first = ltb-false (feedCount book) (firstFeed book i) (none-below (members book) _ (feeds .1) i l);
-        shares-out = ltb-false (scaleOf book) (sharesOut book i (feedCount book)) (none-below (members book) _ (passes .shares-out) i l);
+        shares-out = ltb-false (scaleOf book) (sharesOut book i) (none-below (members book) _ (passes .shares-out) i l);
       }
 
   feed : (j : ℕ) → j < feedCount book → FeedRanges book (suc j)

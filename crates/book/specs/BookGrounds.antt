@@ -12,6 +12,7 @@ use Rattle.book.specs.Fields.{headerLength, headerZeros, headerZeroCount
 use Rattle.refusals.specs.Grounds.{Ground, ground, firstMet}
 use Rattle.refusals.specs.declared.Checked.the-variants.{Passed}
 use Rattle.book.specs.Tests.{outside, someBelow, someIn}
+use Rattle.book.specs.Sums.{sumBelow}
 use Rattle.refusals.specs.declared.Refusal.the-variants.{BookTooShort, CountOutOfRange, BookLengthWrong, HeaderInvalid, MemberOutOfRange, FeedOutOfRange, FeedNotOnce, FeedsMisplaced, FeedNotFromLower, SharesOutTooHigh}
 
 -- 9. The book has fewer than 8 bytes.
@@ -76,13 +77,15 @@ feedsMisplaced book = not (eqb (firstFeed book 0) 0) || someBelow (members book 
 unfoldable pub feedNotFromLower : List ℕ → Bool
 feedNotFromLower book = someBelow (members book) (λ i. someIn (feedsOf book i) (λ j. leb i (from book j)))
 
--- 18. The shares out of one member add up to over 100,000. The first so many feeds are summed.
-unfoldable pub sharesOut : List ℕ → ℕ → ℕ → ℕ
-sharesOut book i zero = 0
-sharesOut book i (suc j) = sharesOut book i j + cond (eqb (from book (suc j)) i) (share book (suc j)) 0
+-- 18. The shares out of one member add up to over 100,000.
+abbrev pub shareOut : List ℕ → ℕ → ℕ → ℕ
+shareOut book i j = cond (eqb (from book j) i) (share book j) 0
+
+abbrev pub sharesOut : List ℕ → ℕ → ℕ
+sharesOut book i = sumBelow (feedCount book) (λ j. shareOut book i (suc j))
 
 unfoldable pub sharesOutTooHigh : List ℕ → Bool
-sharesOutTooHigh book = someBelow (members book) (λ i. ltb (scaleOf book) (sharesOut book i (feedCount book)))
+sharesOutTooHigh book = someBelow (members book) (λ i. ltb (scaleOf book) (sharesOut book i))
 
 abbrev pub bookGrounds : List ℕ → List Ground
 bookGrounds book =

@@ -9,7 +9,7 @@ use lib.Ieee.{odd, ofBits, binary64}
 use lib.Count.{trailingZeros}
 use Rattle.book.specs.Fields.{along}
 use Rattle.book.specs.Tests.{someBelow, someIn}
-use Rattle.book.specs.BookGrounds.{bookTooShort, countOutOfRange, bookLengthWrong, headerInvalid, memberOutOfRange, feedOutOfRange, walk, occurrences, feedNotOnce, feedsMisplaced, feedNotFromLower, sharesOut, sharesOutTooHigh}
+use Rattle.book.specs.BookGrounds.{bookTooShort, countOutOfRange, bookLengthWrong, headerInvalid, memberOutOfRange, feedOutOfRange, walk, occurrences, feedNotOnce, feedsMisplaced, feedNotFromLower, sharesOutTooHigh}
 use Rattle.balance.specs.Balance.{G, reported}
 use Rattle.balance.specs.Factors.{factorAnswer, factorList, answerNumber}
 use Rattle.reading.specs.Reading.{amountOf, mediumOf, whole, wholeAnswer, readingUnusable, concentrationTooHigh, intakeAnswer}
@@ -17,7 +17,8 @@ use Rattle.reading.specs.declared.amounts.Intake.{Intake}
 use Rattle.reading.specs.declared.amounts.Whole.{Whole}
 use Rattle.screening.specs.Exposure.{X, Y, residential, worker, exposureOutOfRange}
 use Rattle.screening.specs.JobGrounds.{codeUnknown, attenuationOutOfRange}
-use Rattle.screening.specs.Verdict.{badness, sumBelow, level}
+use Rattle.screening.specs.Verdict.{badness, level}
+use Rattle.book.specs.Sums.{sumBelow}
 use Rattle.screening.specs.WorkingLevels.{microLevels, workingLevels}
 use Rattle.screening.specs.Screening.{figuresAt, answerOf}
 use Rattle.screening.specs.declared.exposure.Exposure.{Exposure}
@@ -148,5 +149,5 @@ marked =
     ∷ []
 
 pub every-marked-row-holds : allHold marked ≡ true
-unfolding marked allHold holds sameList along someBelow someIn bookTooShort countOutOfRange bookLengthWrong headerInvalid memberOutOfRange feedOutOfRange walk occurrences feedNotOnce feedsMisplaced feedNotFromLower sharesOut sharesOutTooHigh reported exposureOutOfRange whole readingUnusable concentrationTooHigh codeUnknown attenuationOutOfRange sumBelow level workingLevels figuresAt numberIs concentrationIs verdictIs levelIs odd ofBits trailingZeros
+unfolding marked allHold holds sameList along someBelow someIn bookTooShort countOutOfRange bookLengthWrong headerInvalid memberOutOfRange feedOutOfRange walk occurrences feedNotOnce feedsMisplaced feedNotFromLower sharesOutTooHigh reported exposureOutOfRange whole readingUnusable concentrationTooHigh codeUnknown attenuationOutOfRange sumBelow level workingLevels figuresAt numberIs concentrationIs verdictIs levelIs odd ofBits trailingZeros
 every-marked-row-holds = refl

@@ -1,17 +1,14 @@
 -- A verdict, a level and an alpha sum depend on the members' weights and factors alone: where two assessments agree there,
 -- they have the same sums, and so the same answers.
 use Prim.Native.Nat.{ℕ, suc, _+_, _-_, _*_, _<_, min}
-use native.Mathlib.Nat.{le-antisymm, le-of-eq}
 use native.Mathlib.Omega.{arith}
-use mathlib.Core.Path.{_≡_, sym, ap₂}
+use mathlib.Core.Path.{_≡_, ap₂}
 use Rattle.balance.specs.Balance.{G}
-use Rattle.screening.specs.Verdict.{Assessment, sumBelow, level}
+use Rattle.screening.specs.Verdict.{Assessment, level}
+use Rattle.book.specs.Sums.{sumBelow}
 use Rattle.screening.specs.WorkingLevels.{alphaWeight, alphaSum}
 use Rattle.screening.specs.Private.Tabled.{judgedOn}
-use Rattle.screening.proofs.Sums.{sum-mono}
-
-pub sum-same : (n : ℕ) {f g : ℕ → ℕ} → ((i : ℕ) → i < n → f i ≡ g i) → sumBelow n f ≡ sumBelow n g
-sum-same n each = le-antisymm (sum-mono n (λ i l. le-of-eq (each i l))) (sum-mono n (λ i l. le-of-eq (sym (each i l))))
+use Rattle.book.proofs.Sums.{sum-same}
 
 pub alpha-same :
     (n : ℕ) (q q′ : ℕ → ℕ → ℕ) {f f′ : ℕ → ℕ}

@@ -8,12 +8,13 @@ use Rattle.balance.specs.Rates.{maxRate}
 use Rattle.book.specs.Fields.{members}
 use Rattle.balance.specs.Balance.{G}
 use Rattle.book.specs.BookGrounds.{Accepted}
-use Rattle.screening.specs.Verdict.{sumBelow, raised, low, high, verdictAt, badness}
+use Rattle.book.specs.Sums.{sumBelow}
+use Rattle.screening.specs.Verdict.{raised, low, high, verdictAt, badness}
 use Rattle.screening.specs.WorkingLevels.{alphaWeight, equilibrium}
 use Rattle.balance.specs.Factors.{factorAt}
 use Rattle.screening.specs.Screening.{assessmentAt, alphaAt}
 use Rattle.screening.specs.declared.verdict.Criterion.{Criterion}
-use Rattle.screening.proofs.Sums.{sum-mono}
+use Rattle.book.proofs.Sums.{sum-mono}
 use Rattle.screening.proofs.Verdicts.{no-worse-of-lower}
 use Rattle.balance.proofs.Promised.{factor-promises}
 

@@ -9,14 +9,15 @@ use lib.ListN.{getD}
 use Rattle.balance.specs.Balance.{G}
 use Rattle.wide.specs.Value.{modulus}
 use Rattle.reading.specs.Reading.{maxConcentration}
-use Rattle.screening.specs.Verdict.{sumBelow, boundOf, weightOf, verdictOf, cappedQuotient, maxLevel, level}
+use Rattle.book.specs.Sums.{sumBelow}
+use Rattle.screening.specs.Verdict.{boundOf, weightOf, verdictOf, cappedQuotient, maxLevel, level}
 use Rattle.screening.specs.Private.Tabled.{numberIn, termIn, assessmentIn, judgedOn}
 use Rattle.screening.specs.declared.verdict.Criterion.{Criterion}
 use Rattle.screening.specs.declared.verdict.Judgement.{Judgement}
 use Rattle.screening.specs.declared.verdict.Verdict.{Verdict}
 use Rattle.screening.proofs.Held.{Held, multiple-held}
 use Rattle.screening.proofs.Summing.{sumTop}
-use Rattle.screening.proofs.Alike.{sum-same}
+use Rattle.book.proofs.Sums.{sum-same}
 
 -- a sum in limbs times C
 scaled-is : {p r sum C : ℕ} → r ≡ sum → r ≤ sumTop → C ≤ maxConcentration → p ≡ r * C % modulus → p ≡ C * sum

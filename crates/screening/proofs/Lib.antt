@@ -3,7 +3,6 @@
 -- The exposure.
 pub mod WithinLimits
 -- The verdict, the level and the equilibrium factor against the exact quantity.
-pub mod Sums
 pub mod Verdicts
 pub mod Sandwich
 pub mod OneDenominator

@@ -19,7 +19,8 @@ use Rattle.reading.specs.Promises.{ReadingPromise}
 use Rattle.reading.specs.declared.amounts.Amount.{Amount}
 use Rattle.screening.specs.Job.{rate, rateLength, readingOf, forReading, intakeOf, bookOf}
 use Rattle.screening.specs.Exposure.{exposureOutOfRange, exposureAnswer, exposureChecked}
-use Rattle.screening.specs.Verdict.{Assessment, sumBelow, weightOf, boundOf, gap, verdictAt, badness, maxLevel, level}
+use Rattle.screening.specs.Verdict.{Assessment, weightOf, boundOf, gap, verdictAt, badness, maxLevel, level}
+use Rattle.book.specs.Sums.{sumBelow}
 use Rattle.screening.specs.WorkingLevels.{equilibrium}
 use Rattle.screening.specs.Screening.{criterionOf, assessmentAt, alphaAt, answerOf}
 use Rattle.screening.specs.declared.exposure.Exposure.{Exposure}

@@ -2,6 +2,7 @@
 use Prim.Native.Nat.{ℕ, zero, suc, _+_, _*_, _/_, _^_, min}
 use mathlib.Core.Bool.{cond}
 use lib.Dec.{leb, eqb}
+use Rattle.book.specs.Sums.{sumBelow}
 use Rattle.balance.specs.Balance.{G}
 use Rattle.screening.specs.declared.verdict.Criterion.{Criterion}
 use Rattle.screening.specs.declared.verdict.Kind.{Kind}
@@ -12,11 +13,6 @@ use Rattle.screening.specs.declared.verdict.Verdict.the-variants.{Below,
 abbrev pub kindOf : ℕ → Kind
 kindOf zero = Kind.Risk
 kindOf (suc code) = Kind.Dose
-
--- f 0 + … + f (n - 1)
-unfoldable pub sumBelow : ℕ → (ℕ → ℕ) → ℕ
-sumBelow zero f = 0
-sumBelow (suc n) f = sumBelow n f + f n
 
 -- Which of a member's five numbers is the inhalation coefficient, and which the submersion coefficient.
 abbrev pub inhalation : Kind → ℕ

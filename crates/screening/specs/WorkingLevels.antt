@@ -2,7 +2,7 @@
 use Prim.Native.Nat.{ℕ, suc, _*_, _-_, _/_}
 use mathlib.Core.Bool.{cond}
 use lib.Dec.{eqb}
-use Rattle.screening.specs.Verdict.{sumBelow}
+use Rattle.book.specs.Sums.{sumBelow}
 use Rattle.screening.specs.declared.working.WorkingLevels.{WorkingLevels}
 
 -- Which of a member's five numbers is its alpha energy weight w.

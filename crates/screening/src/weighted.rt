@@ -4,7 +4,7 @@ ghost use Prim.Native.Nat.{_+_, _*_, _^_, _≤_, min};
 ghost use Rattle.book.specs.Limits.{maxMembers};
 ghost use Rattle.balance.specs.Balance.{G};
 ghost use Rattle.wide.specs.Value.{value};
-ghost use Rattle.screening.specs.Verdict.{sumBelow};
+ghost use Rattle.book.specs.Sums.{sumBelow};
 ghost use Rattle.screening.specs.Private.Tabled.{termIn};
 use crate::verdict::Criterion;
 use crate::verdict::first_place;

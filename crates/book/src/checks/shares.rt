@@ -5,15 +5,12 @@ use super::super::fields::from_of;
 use super::super::fields::share_of;
 use super::super::limits::WHOLE_SHARE;
 ghost use mathlib.Core.Path.{_≡_};
-ghost use mathlib.Core.Bool.{cond};
 ghost use Prim.Native.Nat.{_<_, _^_};
-ghost use lib.Dec.{eqb};
-ghost use Rattle.book.specs.Fields.{feedCount, share, from};
-ghost use Rattle.book.specs.BookGrounds.{sharesOut, sharesOutTooHigh};
+ghost use Rattle.book.specs.BookGrounds.{shareOut, sharesOut, sharesOutTooHigh};
 
 // Feed j's share, if it leaves member i.
 fn share_out(book: &[u8], i: u16, j: u16) -> u64
-    ensures value { λ r. ⌜ r ≡ cond (eqb (from (now (book .entry)) j) i) (share (now (book .entry)) j) 0 ⌝ }
+    ensures value { λ r. ⌜ r ≡ shareOut (now (book .entry)) i j ⌝ }
     ensures range { λ r. ⌜ r < 2 ^ 32 ⌝ }
 {
     if from_of(book, j) as u16 == i {
@@ -24,7 +21,7 @@ fn share_out(book: &[u8], i: u16, j: u16) -> u64
 
 // The shares out of member i.
 fn shares_out(book: &[u8], i: u16) -> u64
-    ensures { λ r. ⌜ r ≡ sharesOut (now (book .entry)) i (feedCount (now (book .entry))) ⌝ }
+    ensures { λ r. ⌜ r ≡ sharesOut (now (book .entry)) i ⌝ }
 {
     let count = feed_count(book);
     let mut sum = 0;

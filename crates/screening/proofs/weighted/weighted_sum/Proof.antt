@@ -10,11 +10,12 @@ use Rattle.book.specs.Limits.{maxMembers}
 use Rattle.book.specs.Fields.{coefficientCount}
 use Rattle.balance.specs.Balance.{G}
 use Rattle.wide.specs.Value.{value}
-use Rattle.screening.specs.Verdict.{inhalation, submersion, sumBelow}
+use Rattle.screening.specs.Verdict.{inhalation, submersion}
+use Rattle.book.specs.Sums.{sumBelow}
 use Rattle.screening.specs.Private.Tabled.{termIn}
 use Rattle.screening.specs.declared.verdict.Criterion.{Criterion}
 use Rattle.screening.proofs.Held.{Held}
-use Rattle.screening.proofs.Alike.{sum-same}
+use Rattle.book.proofs.Sums.{sum-same}
 use Rattle.screening.proofs.Summing.{termTop, no-terms, next-term, all-terms}
 use Rattle.screening.proofs.weighted.weighted_sum.Statement.{statement}
 use Rattle.screening.proofs.weighted.weighted_sum.Tie as tie

@@ -7,7 +7,7 @@ use borrow.Author.Needs.{needs}
 use mathlib.Core.List.{List}
 use lib.ListN.{getD}
 use Rattle.wide.specs.Value.{value}
-use Rattle.screening.specs.Verdict.{sumBelow}
+use Rattle.book.specs.Sums.{sumBelow}
 use Rattle.screening.specs.WorkingLevels.{alphaWeight}
 use Rattle.screening.specs.Private.Tabled.{numberIn}
 use Rattle.screening.proofs.Held.{Held}

@@ -1,30 +1,26 @@
 -- `book::checks::shares::shares_out` meets its contract. After j turns the sum is that of the first j feeds, each below 2^32.
 use borrow.Author.Needs.{needs}
-use Prim.Native.Nat.{ℕ, _+_, _*_, _-_, _≤_, _<_, _^_}
+use Prim.Native.Nat.{ℕ, suc, _+_, _*_, _-_, _≤_, _<_, _^_}
 use mathlib.Core.Path.{_≡_, refl, _∙_, ap, ap₂}
-use mathlib.Core.Bool.{cond}
-use lib.Dec.{eqb}
 use mathlib.Core.List.{List}
 use native.Mathlib.Numerals.{add-one}
 use native.Mathlib.Omega.{arith}
-use Rattle.book.specs.Fields.{feedCount, share, from}
-use Rattle.book.specs.BookGrounds.{sharesOut}
+use Rattle.book.specs.Fields.{feedCount}
+use Rattle.book.specs.BookGrounds.{shareOut}
+use Rattle.book.specs.Sums.{sumBelow}
 use Rattle.book.proofs.checks.shares.shares_out.Statement.{statement}
 use Rattle.book.proofs.checks.shares.shares_out.Tie as tie
-
-abbrev shareOut : List ℕ → ℕ → ℕ → ℕ
-shareOut book i j = cond (eqb (from book j) i) (share book j) 0
 
 -- After j of `count` turns.
 record Summed (book : List ℕ) (i count j sum : ℕ) : Type 0 where
   turns : j ≤ count
-  so-far : sum ≡ sharesOut book i j
+  so-far : sum ≡ sumBelow j (λ k. shareOut book i (suc k))
   small : sum ≤ 2 ^ 32 * j
 
 more :
     {book : List ℕ} {i count j sum r : ℕ} →
     Summed book i count j sum → j < count → r ≡ shareOut book i (j + 1) → r < 2 ^ 32 → Summed book i count (j + 1) (sum + r)
-unfolding sharesOut
+unfolding sumBelow
 more {book} {i} {count} {j} s h e low =
     record {
       turns = omega arith;
@@ -39,7 +35,7 @@ abbrev μ-loop : tie.MeasureT-loop
 μ-loop book i count sum₀ j₀ sum j = count - j
 
 loop-holds : tie.Need-loop-holds Inv-loop μ-loop
-unfolding sharesOut
+unfolding sumBelow
 loop-holds c = record { turns = omega arith; so-far = refl; small = omega arith }
 
 loop-again : tie.Need-loop-again Inv-loop μ-loop

@@ -3,14 +3,14 @@ use borrow.Author.Needs.{needs}
 use Prim.Native.Nat.{_-_}
 use lib.Dec.{ltb}
 use mathlib.Core.Path.{refl, ap}
-use Rattle.book.specs.Fields.{members, feedCount, scaleOf}
+use Rattle.book.specs.Fields.{members, scaleOf}
 use Rattle.book.specs.BookGrounds.{sharesOut, sharesOutTooHigh}
 use Rattle.book.proofs.Tested.{Tested, none, more, all}
 use Rattle.book.proofs.checks.shares.shares_out_too_high.Statement.{statement}
 use Rattle.book.proofs.checks.shares.shares_out_too_high.Tie as tie
 
 abbrev Inv-loop : tie.InvT-loop
-Inv-loop book count found₀ i₀ found i = Tested (λ i. ltb (scaleOf book) (sharesOut book i (feedCount book))) (members book) count i found
+Inv-loop book count found₀ i₀ found i = Tested (λ i. ltb (scaleOf book) (sharesOut book i)) (members book) count i found
 
 abbrev μ-loop : tie.MeasureT-loop
 μ-loop book count found₀ i₀ found i = count - i

@@ -1,9 +1,10 @@
--- Laws of a sum below n: it keeps order, and a factor or a bound of each term is one of the sum.
+-- Laws of a sum below n: it keeps order and equality, and a factor or a bound of each term is one of the sum.
 -- Each goes term by term, from the first on.
 use Prim.Native.Nat.{ℕ, zero, suc, _+_, _*_, _≤_, _<_}
+use native.Mathlib.Nat.{le-antisymm, le-of-eq}
 use native.Mathlib.Omega.{arith}
-use mathlib.Core.Path.{_≡_, refl}
-use Rattle.screening.specs.Verdict.{sumBelow}
+use mathlib.Core.Path.{_≡_, refl, sym}
+use Rattle.book.specs.Sums.{sumBelow}
 
 pub sum-mono : (n : ℕ) {f g : ℕ → ℕ} → ((i : ℕ) → i < n → f i ≤ g i) → sumBelow n f ≤ sumBelow n g
 unfolding sumBelow
@@ -24,3 +25,6 @@ pub sum-at-most : (n c : ℕ) {f : ℕ → ℕ} → ((i : ℕ) → i < n → f i
 unfolding sumBelow
 sum-at-most zero c each = omega arith
 sum-at-most (suc n) c each = omega (arith, sum-at-most n c (λ i l. each i (omega arith)), each n (omega arith))
+
+pub sum-same : (n : ℕ) {f g : ℕ → ℕ} → ((i : ℕ) → i < n → f i ≡ g i) → sumBelow n f ≡ sumBelow n g
+sum-same n each = le-antisymm (sum-mono n (λ i l. le-of-eq (each i l))) (sum-mono n (λ i l. le-of-eq (sym (each i l))))

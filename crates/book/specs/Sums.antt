@@ -1,0 +1,7 @@
+-- A sum over the numbers below another.
+use Prim.Native.Nat.{ℕ, zero, suc, _+_}
+
+-- f 0 + … + f (n - 1)
+unfoldable pub sumBelow : ℕ → (ℕ → ℕ) → ℕ
+sumBelow zero f = 0
+sumBelow (suc n) f = sumBelow n f + f n
