@@ -1,6 +1,7 @@
-"""Document 01's rows on whole jobs; and both edges of grounds 1 to 8 and of C: the last accepted value and the first refused one.
+"""Document 01's rows on whole jobs; two shifts a quarter of an hour apart; and both edges of grounds 1 to 8 and of C: the last
+accepted value and the first refused one. ET is in quarter hours throughout (document 02, R-1).
 
-The answers are typed here from document 01: a verdict or a level, the number of a refusal, or the concentration of an accepted job.
+The answers are typed here from the documents: a verdict or a level, the number of a refusal, or the concentration of an accepted job.
 """
 
 import math
@@ -32,6 +33,34 @@ def rows():
         yield pack_job(kind=1, unit=0, value=bits(10.0), target=target) + dose, line
 
 
+def shifts():
+    """A worker room let for 31 quarters (7 hours 45) or 32 (8 hours), the parent alone, at targets that tell the two apart.
+
+    X = 250 * 25 * ET * 60 = 375,000 * ET: 11,625,000 for 31 quarters, 12,000,000 for 32; Z = 25; 8,760 = 365 * 24.
+    With one member its factor is G, so Low = High and both sides can be divided by G and by 37 * 365.
+
+    Risk, h = 1,000, 1.0 pCi/L (C = 37,000 = 37 * 1,000): 1,000 * X * 1,000 against 4 * target * 24 * 10^8.
+    So 'below' is X <= 9,600 * target: 31 quarters from 11,625,000 / 9,600 = 1,210.9, 32 from exactly 1,250.
+    Dose, coefficient 1,000, 10 pCi/L (C = 370,000 = 37 * 10,000): 10,000 * X * 1,000 against 4 * target * 25 * 24 * 10^7.
+    So 'below' is X <= 2,400 * target: 31 quarters from 11,625,000 / 2,400 = 4,843.75, 32 from exactly 5,000.
+
+    At 1,250 and at 5,000 the 8 hour shift's level is C itself; the other's is 32/31 of it, rounded down:
+    1,184,000 / 31 = 38,193.5 and 11,840,000 / 31 = 381,935.4.
+    """
+    risk = pack_book([pack_member(1, inhalation_risk=1_000)], [])
+    dose = pack_book([pack_member(1, inhalation_dose=1_000)], [])
+    below, above = 'verdict below', 'verdict above'
+    at_risk = ((1_210, above, above), (1_211, below, above), (1_249, below, above),
+               (1_250, f'{below}\nlevel 38193', f'{below}\nlevel 37000'))
+    at_dose = ((4_843, above, above), (4_844, below, above), (4_999, below, above),
+               (5_000, f'{below}\nlevel 381935', f'{below}\nlevel 370000'))
+    for kind, value, book, table in ((0, 1.0, risk, at_risk), (1, 10.0, dose, at_dose)):
+        for target, shorter, longer in table:
+            for ET, line in ((31, shorter), (32, longer)):
+                groups = {'child': (0, 0, 0, 0), 'adult': (250, 25, ET, 60)}
+                yield pack_job(kind=kind, unit=0, value=bits(value), target=target, **groups) + book, line
+
+
 def codes():
     yield job()[:47], 1
     yield job()[:48], 9  # 48 bytes pass ground 1
@@ -54,14 +83,17 @@ def codes():
 
 
 def exposures():
-    limits = (366, 100, 24, 100)
+    limits = (366, 100, 96, 100)
     for name in ('child', 'adult'):
         yield job(**{name: limits}), 0
         for place in range(4):
             over = list(limits)
             over[place] += 1
             yield job(**{name: over}), 6
-    yield job(child=(350, 0, 24, 10), adult=(350, 0, 24, 20)), 6
+        # ET alone, up to 24 hours in whole hours and in parts of them; a quarter more is refused. 256 has a low byte of 0.
+        for ET, number in ((0, 0), (1, 0), (24, 0), (25, 0), (31, 0), (95, 0), (96, 0), (97, 6), (99, 6), (100, 6), (256, 6)):
+            yield job(**{name: (350, 20, ET, 20)}), number
+    yield job(child=(350, 0, 96, 10), adult=(350, 0, 96, 20)), 6
     yield job(child=(0, 1, 0, 0), adult=(0, 0, 0, 0)), 0
 
 
@@ -106,7 +138,7 @@ def concentrations():
 
 def edges():
     """(the job, what its text must have)"""
-    for data, line in rows():
+    for data, line in [*rows(), *shifts()]:
         yield data, f'{line}\n'
     for data, number in [*codes(), *exposures(), *unusable()]:
         yield data, f'refused {number}\n' if number else 'concentration 0\n'

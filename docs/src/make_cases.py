@@ -3,8 +3,9 @@
     make_cases.py CASES EXPECTED
 
 CASES gets one record a job: its length as a little-endian u16, then its bytes. EXPECTED gets the texts in
-order with nothing between. The count of every outcome is printed. The same files come out every time:
-the random numbers are made here, so that no library's choice can change them.
+order with nothing between. The count of every outcome is printed, and that of accepted jobs by the part of the
+hour in their exposure. The same files come out every time: the random numbers are made here, so that no
+library's choice can change them.
 """
 
 import math
@@ -143,8 +144,10 @@ def random_flows(rng, n, m):
 
 
 def random_group(rng, may_be_empty=True):
-    groups = [(350, 6, 24, 10), (350, 20, 24, 20), (250, 25, 8, 60), (366, 100, 24, 100), (1, 1, 1, 1), (0, 1, 24, 20)]
-    drawn = (rng.between(0, 366), rng.between(1, 100), rng.between(0, 24), rng.between(0, 100))
+    """Days, years, quarter hours and breathing: the named groups, a shift of 7 hours 45, limits, and any other."""
+    groups = [(350, 6, 96, 10), (350, 20, 96, 20), (250, 25, 32, 60), (250, 25, 31, 60), (366, 100, 96, 100), (1, 1, 1, 1),
+              (0, 1, 96, 20)]
+    drawn = (rng.between(0, 366), rng.between(1, 100), rng.between(0, 96), rng.between(0, 100))
     return rng.one_of(groups + [drawn, drawn] + ([(0, 0, 0, 0)] if may_be_empty else []))
 
 
@@ -231,7 +234,7 @@ def thin_case(rng):
     flows = [(i, rng.spread(1, 100_000), i - 1) for i in range(1, n)]
     job = random_job(rng)
     job.update(v=rng.between(20_000, 100_000), medium=0, AF=10**6, unit=2, value=bits(rng.between(1, 4_000_000) / 1.0),
-               uncertainty=0, child=(366, 100, 24, 100), adult=random_group(rng, may_be_empty=False))
+               uncertainty=0, child=(366, 100, 96, 100), adult=random_group(rng, may_be_empty=False))
     return Case(job, members, flows, rng)
 
 
@@ -336,7 +339,7 @@ def largest_jobs(rng):
                 members = [{"T": 10**15 if i == 0 else T} for i in range(16)]
                 for member in members:
                     member.update({name: ref.MOST for name in COEFFICIENTS + ("w",)})
-                group = (366, 100, 24, 100)
+                group = (366, 100, 96, 100)
                 job = {"v": v, "kind": kind, "unit": 2, "value": bits(4e6), "target": 10**9, "child": group, "adult": group}
                 made.append(Case(job, members, [(i, 100_000, i - 1) for i in range(1, 16)], rng, W=rng.between(1, 2)).data())
     return made
@@ -507,8 +510,9 @@ DAMAGE = {
     4: [in_job(target=10**9 + 1), in_job(target=TOP), in_job(target=1 << 31)],
     5: [in_job(medium=1, AF=10**6 + 1), in_job(medium=2, AF=TOP), in_job(medium=0, AF=999_999), in_job(medium=0, AF=0),
         in_job(medium=0, AF=10**6 + 1)],
-    6: [in_group(name, place, over) for name in ("child", "adult") for place, over in ((0, 367), (1, 101), (2, 25), (3, 101))]
-       + [in_job(child=(0, 0, 0, 0), adult=(350, 0, 24, 20)), in_group("child", 0, 65_535), in_group("adult", 3, 65_535)],
+    6: [in_group(name, place, over) for name in ("child", "adult") for place, over in ((0, 367), (1, 101), (2, 97), (3, 101))]
+       + [in_job(child=(0, 0, 0, 0), adult=(350, 0, 96, 20)), in_group("child", 0, 65_535), in_group("adult", 3, 65_535),
+          in_group("child", 2, 65_535)],
     7: in_reading(*BAD_READINGS),
     8: in_reading(*LARGE_READINGS)
        + [in_job(unit=unit, medium=0, AF=10**6, value=bits(math.nextafter(largest_reading(unit), math.inf)), uncertainty=0)
@@ -618,6 +622,18 @@ def outcomes(texts):
     return {name: lines.count(name) for name in names}
 
 
+def parts_of_the_hour(jobs, texts):
+    """How many accepted jobs have a group in whole hours, in half hours, and in odd quarters; an ET of 0 is none of them."""
+    counts = {"whole hours": 0, "half hours": 0, "odd quarters": 0}
+    names = ("whole hours", "odd quarters", "half hours", "odd quarters")
+    for data, text in zip(jobs, texts):
+        if not text.startswith("refused"):
+            job, _ = ref.read_job(data)
+            for name in {names[g.ET % 4] for g in (job.child, job.adult) if g.ET > 0}:
+                counts[name] += 1
+    return counts
+
+
 def write_cases(path, jobs):
     with open(path, "wb") as out:
         for data in jobs:
@@ -632,7 +648,7 @@ def main():
     for data in jobs:
         ref.check(data)
     texts = [ref.answer(data) for data in jobs]
-    counts = outcomes(texts)
+    counts = outcomes(texts) | parts_of_the_hour(jobs, texts)
     size = sum(2 + len(data) for data in jobs)
     assert len(jobs) >= 1_000 and size < 600_000 and min(counts.values()) >= 10
     write_cases(sys.argv[1], jobs)

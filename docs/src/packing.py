@@ -9,8 +9,8 @@ def bits(number):
 
 
 def pack_job(v=0, kind=0, medium=0, unit=2, zero=0, target=0, AF=1_000_000, value=0, uncertainty=0,
-             child=(350, 6, 24, 10), adult=(350, 20, 24, 20)):
-    """The 48 bytes of a job; value and uncertainty are given by their bits."""
+             child=(350, 6, 96, 10), adult=(350, 20, 96, 20)):
+    """The 48 bytes of a job; value and uncertainty are given by their bits, a group's third number in quarter hours."""
     head = struct.pack("<IBBBBIIQQ", v, kind, medium, unit, zero, target, AF, value, uncertainty)
     return head + struct.pack("<4H", *child) + struct.pack("<4H", *adult)
 

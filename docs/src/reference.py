@@ -1,6 +1,7 @@
-"""Document 01 in exact whole numbers and fractions: the check from outside.
+"""Documents 01 and 02 (R-1) in exact whole numbers and fractions: the check from outside.
 
-It follows the document's order and words and shares nothing with the proved program.
+It follows document 01's order and words, with exposure in quarter hours as R-1 of document 02 has it,
+and shares nothing with the proved program.
 A job on standard input gives the text of `screen` on standard output;
 with --check it also asserts, on that job, what demand 3 promises.
 
@@ -30,6 +31,7 @@ def refuse_if(met, number):
 
 # ---- Book and job -------------------------------------------------------------------------------
 
+# EF in days per year, ED in years, ET in quarter hours per day (0 to 96, R-1), IRA in m3 per day.
 Group = namedtuple("Group", "EF ED ET IRA")
 Job = namedtuple("Job", "v kind medium unit target AF value uncertainty child adult")
 Member = namedtuple("Member", "T inhalation_risk submersion_risk inhalation_dose submersion_dose w")
@@ -40,8 +42,8 @@ RISK, DOSE = 0, 1
 INDOOR_AIR, SOIL_GAS, GROUNDWATER = 0, 1, 2
 MOST = 4_000_000_000  # the limit of a concentration, of a coefficient and of a weight
 
-RESIDENTIAL = (Group(350, 6, 24, 10), Group(350, 20, 24, 20))
-WORKER = (Group(0, 0, 0, 0), Group(250, 25, 8, 60))
+RESIDENTIAL = (Group(350, 6, 96, 10), Group(350, 20, 96, 20))
+WORKER = (Group(0, 0, 0, 0), Group(250, 25, 32, 60))
 
 
 # ---- Balance ------------------------------------------------------------------------------------
@@ -144,9 +146,10 @@ def q(job, member):
 
 
 def B(job):
+    """The target. The 4 is R-1's: X and Y count quarter hours, and 8,760 is still the hours of a year."""
     if job.kind == RISK:
-        return job.target * 37 * 8_760 * 10**8 * G
-    return job.target * Z((job.child, job.adult)) * 37 * 8_760 * 10**7 * G
+        return 4 * job.target * 37 * 8_760 * 10**8 * G
+    return 4 * job.target * Z((job.child, job.adult)) * 37 * 8_760 * 10**7 * G
 
 
 def low_sum(job, book):
@@ -211,7 +214,7 @@ def check_rate(v):
 
 
 def group_too_large(g):
-    return g.EF > 366 or g.ED > 100 or g.ET > 24 or g.IRA > 100
+    return g.EF > 366 or g.ED > 100 or g.ET > 96 or g.IRA > 100
 
 
 def read_job(data):

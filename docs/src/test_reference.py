@@ -1,4 +1,5 @@
-"""Every row of document 01, and its worked output, against the reference.
+"""Every row of document 01, restated in quarter hours (document 02, R-1), and its worked output, against the reference;
+and that a job in whole hours, restated in quarters, keeps its verdict, its level and its refusal.
 
     test_reference.py
 """
@@ -6,6 +7,7 @@
 import math
 import struct
 
+import make_cases
 import reference as ref
 from packing import bits, pack_book, pack_feed, pack_job, pack_member
 from plain_help import answer_help
@@ -57,8 +59,8 @@ def test_balance():
 
 
 def test_exposure():
-    assert (ref.X(ref.RESIDENTIAL), ref.Y(ref.RESIDENTIAL), ref.Z(ref.RESIDENTIAL)) == (3_864_000, 218_400, 26)
-    assert (ref.X(ref.WORKER), ref.Y(ref.WORKER), ref.Z(ref.WORKER)) == (3_000_000, 50_000, 25)
+    assert (ref.X(ref.RESIDENTIAL), ref.Y(ref.RESIDENTIAL), ref.Z(ref.RESIDENTIAL)) == (15_456_000, 873_600, 26)
+    assert (ref.X(ref.WORKER), ref.Y(ref.WORKER), ref.Z(ref.WORKER)) == (12_000_000, 200_000, 25)
 
 
 def test_reading():
@@ -136,6 +138,98 @@ def test_f64_bits():
         raw = bits(math.copysign(float(text.lstrip("-")), -1 if text.startswith("-") else 1))
         assert not ref.is_reading(raw)
     assert struct.calcsize("<IBBBBIIQQ") + 16 == 48
+
+
+# ---- Document 01 as it stood, in whole hours: what must come out unchanged -----------------------
+
+
+def sums_in_hours(job, groups, book):
+    """What C is multiplied by in Low and in High; the balance has no exposure in it and is the reference's."""
+    X = sum(EF * ED * ET * IRA for EF, ED, ET, IRA in groups)
+    Y = sum(EF * ED * ET for EF, ED, ET, _ in groups)
+    low = high = 0
+    for i, factor in enumerate(ref.reported_factors(job.v, book)):
+        _, h, s, dose_h, dose_s, _ = book.members[i]
+        q = 365 * X * h + Y * s if job.kind == 0 else 365 * X * dose_h + Y * dose_s
+        low += q * factor
+        high += q * min(factor + 2 * i, G)
+    return low, high
+
+
+def B_in_hours(job, groups, target):
+    if job.kind == 0:
+        return target * 37 * 8_760 * 10**8 * G
+    Z = sum(ED for _, ED, _, _ in groups)
+    return target * Z * 37 * 8_760 * 10**7 * G
+
+
+def lines_in_hours(low, high, B, C):
+    """The two lines that the verdict and the level make."""
+    verdict = "below" if C * high <= B else "above" if C * low > B else "close"
+    level = 4_000_000_000 if high == 0 else min(4_000_000_000, B // high)
+    return f"verdict {verdict}\nlevel {level}\n"
+
+
+def refused_in_hours(groups):
+    """Ground 6 as it stood."""
+    over = any(EF > 366 or ED > 100 or ET > 24 or IRA > 100 for EF, ED, ET, IRA in groups)
+    return over or sum(ED for _, ED, _, _ in groups) == 0
+
+
+def in_quarters(group):
+    EF, ED, ET, IRA = group
+    return EF, ED, 4 * ET, IRA
+
+
+def random_hours(rng):
+    drawn = (rng.between(0, 366), rng.between(1, 100), rng.between(0, 24), rng.between(0, 100))
+    named = ((350, 6, 24, 10), (350, 20, 24, 20), (250, 25, 8, 60), (366, 100, 24, 100), (1, 1, 1, 1))
+    return rng.one_of(named + (drawn, drawn, drawn))
+
+
+def random_in_hours(rng):
+    """A good case and its two groups in whole hours; the case itself is restated in quarters."""
+    make = rng.one_of((make_cases.random_case, make_cases.thin_case, make_cases.halved_case, make_cases.parent_case))
+    case = make(rng)
+    groups = rng.one_of(((0, 0, 0, 0), random_hours(rng))), random_hours(rng)
+    case.job["child"], case.job["adult"] = map(in_quarters, groups)
+    return case, groups
+
+
+def targets_in_hours(rng, low, high, one, C):
+    """About where Low and High meet B by document 01's formulas, where that is a target at all; and one drawn at large."""
+    edges = {C * side // one + step for side in (low, high) for step in (-1, 0, 1)}
+    return sorted(target for target in edges | {rng.spread(0, 10**9)} if 0 <= target <= 10**9)
+
+
+def test_whole_hours_unchanged():
+    """Whole hours restated in quarters: 4 times ET and 4 times B leave each verdict and each level as it was."""
+    rng = make_cases.Random(0x5175617274657273)
+    seen = {}
+    while sum(seen.values()) < 4_000:
+        case, groups = random_in_hours(rng)
+        job, C, book = ref.read_all(case.data())
+        low, high = sums_in_hours(job, groups, book)
+        for target in targets_in_hours(rng, low, high, B_in_hours(job, groups, 1), C):
+            case.job["target"] = target
+            lines = lines_in_hours(low, high, B_in_hours(job, groups, target), C)
+            assert lines in ref.answer(case.data()), (groups, target, lines)
+            outcome = job.kind, lines.split()[1]
+            seen[outcome] = seen.get(outcome, 0) + 1
+    assert all(seen.get((kind, verdict), 0) >= 100 for kind in (0, 1) for verdict in ("below", "close", "above")), seen
+
+
+def test_refusal_unchanged():
+    """Ground 6 on whole hours is ground 6 on four times as many quarters, in either group."""
+    refused = 0
+    for ET in range(31):
+        child, adult = (350, 6, ET, 10), (350, 20, ET, 20)
+        for groups in ((child, (350, 20, 24, 20)), ((350, 6, 24, 10), adult), ((0, 0, 0, 0), (250, 25, ET, 60))):
+            restated = dict(zip(("child", "adult"), map(in_quarters, groups)))
+            text = ref.answer(pack_job(**restated) + parent_book())
+            assert (text == "refused 6\n") == refused_in_hours(groups) == (ET > 24), groups
+            refused += text.startswith("refused")
+    assert refused == 3 * 6  # 25 to 30 hours
 
 
 def main():

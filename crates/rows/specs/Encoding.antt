@@ -44,7 +44,7 @@ abbrev pub bookBytes : ℕ → List MemberEntry → List FeedEntry → List ℕ
 bookBytes W ms fs = length ms ∷ length fs ∷ littleEndian 2 W ++ replicate 4 0 ++ memberBytes ms ++ feedBytes fs
 
 abbrev pub groupBytes : Group → List ℕ
-groupBytes g = littleEndian 2 (g .days) ++ littleEndian 2 (g .years) ++ littleEndian 2 (g .hours) ++ littleEndian 2 (g .breathing)
+groupBytes g = littleEndian 2 (g .days) ++ littleEndian 2 (g .years) ++ littleEndian 2 (g .«quarter_hours») ++ littleEndian 2 (g .breathing)
 
 -- A risk job on indoor air read in pCi/L, without uncertainty: its rate, its target, its value as the bits of an f64, and its exposure.
 abbrev pub riskJob : ℕ → ℕ → ℕ → Exposure → List ℕ → List ℕ

@@ -133,8 +133,8 @@ marked =
     ∷ factors 0 (oneDaughter 33333) (G ∷ 366500210886 ∷ [])
     ∷ factors 0 diamond (G ∷ G / 2 ∷ G / 2 ∷ G ∷ [])
     ∷ factors 100 diamond (G ∷ G / 4 ∷ G / 4 ∷ G / 4 ∷ [])
-    ∷ exposed residential 3864000 218400
-    ∷ exposed worker 3000000 50000
+    ∷ exposed residential 15456000 873600
+    ∷ exposed worker 12000000 200000
     ∷ reads 0 four 148000
     ∷ reads 1 half 19
     ∷ measures 2 0 1000 hundred 16058

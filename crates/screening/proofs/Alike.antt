@@ -1,14 +1,14 @@
--- A verdict, a level and an alpha sum depend on the members' weights and factors alone: where two assessments agree there,
--- they have the same sums, and so the same answers.
-use Prim.Native.Nat.{ℕ, suc, _+_, _-_, _*_, _<_, min}
+-- A verdict, a level and an alpha sum depend on the members' weights and factors alone: two assessments that agree there have the
+-- factor 1 in common, and so the same answers.
+use Prim.Native.Nat.{ℕ, suc, _-_, _*_, _<_}
 use native.Mathlib.Omega.{arith}
-use mathlib.Core.Path.{_≡_, ap₂}
-use Rattle.balance.specs.Balance.{G}
-use Rattle.screening.specs.Verdict.{Assessment, level}
-use Rattle.book.specs.Sums.{sumBelow}
+use mathlib.Core.Path.{_≡_, refl, ap₂, _∙_}
+use Rattle.screening.specs.Verdict.{Assessment}
+use Rattle.screening.specs.Promises.{CommonFactor}
 use Rattle.screening.specs.WorkingLevels.{alphaWeight, alphaSum}
 use Rattle.screening.specs.Private.Tabled.{judgedOn}
 use Rattle.book.proofs.Sums.{sum-same}
+use Rattle.screening.proofs.CommonFactor.{common-factor}
 
 pub alpha-same :
     (n : ℕ) (q q′ : ℕ → ℕ → ℕ) {f f′ : ℕ → ℕ}
@@ -26,12 +26,11 @@ module _
   abbrev after : ℕ → Assessment
   after B = record { count = n; weight = w′; factor = f′; bound = B }
 
-  low-same : sumBelow n (λ i. w i * f i) ≡ sumBelow n (λ i. w′ i * f′ i)
-  low-same = sum-same n (λ i l. ap₂ (λ x y. x * y) (weights i l) (factors i l))
-
-  high-same : sumBelow n (λ i. w i * min (f i + 2 * i) G) ≡ sumBelow n (λ i. w′ i * min (f′ i + 2 * i) G)
-  high-same = sum-same n (λ i l. ap₂ (λ x y. x * min (y + 2 * i) G) (weights i l) (factors i l))
+  alike : (B : ℕ) → CommonFactor 1 (after B) (before B)
+  alike B =
+      record { count = refl; weight = λ i l. weights i l ∙ omega arith; factor = factors; bound = omega arith }
 
   pub judged-same : (B C : ℕ) → judgedOn (before B) C ≡ judgedOn (after B) C
-  unfolding level
-  judged-same B C = rw (low-same, high-same)
+  judged-same B C =
+      let same = common-factor 1 (omega arith) (after B) (before B) (alike B) in
+      rw (same .verdict C, same .level)

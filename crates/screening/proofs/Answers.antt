@@ -11,7 +11,7 @@ use Rattle.reading.specs.Reading.{concentration}
 use Rattle.book.specs.Fields.{coefficient}
 use Rattle.screening.specs.Job.{rate, rateLength, concentrationOf, bookOf}
 use Rattle.screening.specs.JobGrounds.{checkedJob}
-use Rattle.screening.specs.Verdict.{verdictAt, badness}
+use Rattle.screening.specs.Verdict.{verdictAt, badness, level}
 use Rattle.screening.specs.Screening.{criterionOf, assessmentAt, figuresAt, answerFor, answerOf}
 use Rattle.screening.specs.Promises.{AnswerPromise}
 use Rattle.screening.specs.declared.job.Answer.{Answer}
@@ -27,7 +27,7 @@ use Rattle.screening.proofs.Falling.{no-worse}
 abbrev figuresOf : List ℕ → List ℕ → Figures
 figuresOf job book = figuresAt (criterionOf job) book (coefficient book) (rate job) (concentrationOf job)
 
-abbrev judged : Criterion → List ℕ → ℕ → ℕ → Verdict
+abbrev pub judged : Criterion → List ℕ → ℕ → ℕ → Verdict
 judged by book v C = verdictAt (assessmentAt by book (coefficient book) v) C
 
 screened-passed :
@@ -43,12 +43,16 @@ module _ (job : List ℕ) (figures : Figures) (answered : answerOf job .outcome 
   passes : JobPasses job (bookOf job)
   passes = job-passes job (bookOf job) (screened .0)
 
-  verdict-is :
+  pub verdict-is :
       figures .verdict ≡ judged (criterionOf job) (bookOf job) (rate job) (concentrationOf job)
   unfolding figuresAt
   verdict-is = ap (λ f. f .verdict) (screened .1)
 
-  concentration-is : figures .concentration ≡ concentrationOf job
+  pub level-is : figures .level ≡ level (assessmentAt (criterionOf job) (bookOf job) (coefficient (bookOf job)) (rate job))
+  unfolding figuresAt
+  level-is = ap (λ f. f .level) (screened .1)
+
+  pub concentration-is : figures .concentration ≡ concentrationOf job
   unfolding figuresAt
   concentration-is = ap (λ f. f .concentration) (screened .1)
 

@@ -10,6 +10,7 @@ pub mod Enclosing
 pub mod Soundness
 pub mod Falling
 pub mod Level
+pub mod CommonFactor
 -- The sums in limbs, and the arrays of a book.
 pub mod Held
 pub mod Summing
@@ -21,4 +22,5 @@ pub mod JobChecks
 pub mod SameBytes
 pub mod Answers
 pub mod AnswerByChecks
+pub mod Restated
 pub mod Promised

@@ -1,5 +1,5 @@
 -- Everything that is promised. Demand 3's half of the factors is proved in balance, the reading's promise in reading, and the rest in OneDenominator,
--- Soundness, Falling, Level, Answers and JobChecks.
+-- Soundness, Falling, Level, CommonFactor, Answers, Restated and JobChecks.
 use Prim.Native.Nat.{ℕ}
 use mathlib.Core.Path.{_≡_, refl}
 use mathlib.Core.Bool.{Bool, true, false, cond}
@@ -19,8 +19,10 @@ use Rattle.screening.proofs.OneDenominator.{one-denominator}
 use Rattle.screening.proofs.Soundness.{verdict-promise}
 use Rattle.screening.proofs.Falling.{no-worse, equilibrium-at-most-one}
 use Rattle.screening.proofs.Level.{level-promise}
+use Rattle.screening.proofs.CommonFactor.{common-factor}
 use Rattle.screening.proofs.JobChecks.{reading-checked}
 use Rattle.screening.proofs.Answers.{answer-promise, no-worse-answer}
+use Rattle.screening.proofs.Restated.{whole-hours}
 
 pub demand-3 : Demand3
 demand-3 =
@@ -54,6 +56,8 @@ pub promises : Promises
 promises =
     record {
       demand3 = demand-3;
+      common-factor = λ k a b pos common. common-factor k pos a b common;
+      whole-hours = whole-hours;
       reading = reading-promise;
       amount-grounds = λ amount. whole-grounds (unusable (figure amount)) (ltb maxConcentration (whole amount)) (whole amount);
       reading-grounds = reading-checked;

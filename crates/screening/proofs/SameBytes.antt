@@ -11,17 +11,10 @@ use Rattle.reading.specs.Reading.{mediumOf, readingUnusable, concentrationTooHi
 use Rattle.reading.specs.declared.amounts.Medium.{Medium}
 use Rattle.reading.specs.declared.amounts.Reading.{Reading}
 use Rattle.screening.specs.Job.{kind, medium, unit, target, attenuation, readingOf, forReading, groupAt, exposureOf, rateLength, jobLength}
-use Rattle.screening.specs.Exposure.{X, Y, Z}
 use Rattle.screening.specs.Verdict.{kindOf}
 use Rattle.screening.specs.JobGrounds.{codeUnknown, attenuationOutOfRange}
-use Rattle.screening.specs.Screening.{criterionOf}
+use Rattle.screening.specs.Screening.{criterionFor, criterionOf}
 use Rattle.screening.specs.Private.Checks.{readingGrounds}
-use Rattle.screening.specs.declared.exposure.Exposure.{Exposure}
-use Rattle.screening.specs.declared.verdict.Criterion.{Criterion}
-
--- A criterion is made of a job's kind, exposure and target.
-abbrev criterionFrom : ℕ → Exposure → ℕ → Criterion
-criterionFrom code e t = record { kind = kindOf code; x = X e; y = Y e; z = Z e; target = t }
 
 pub record SameFields (a b : List ℕ) : Type 0 where
   pub byte : (k : ℕ) → rateLength ≤ k → k < jobLength → getD a k 0 ≡ getD b k 0
@@ -62,8 +55,8 @@ module _ {a b : List ℕ} (same : SameFields a b) where
 
   pub criterion-same : criterionOf a ≡ criterionOf b
   criterion-same =
-      ap₂ (λ k e. criterionFrom k e (target a)) (same .byte 4 (omega arith) (omega arith)) exposure-same
-      ∙ ap (criterionFrom (kind b) (exposureOf b)) target-same
+      ap₂ (λ code e. criterionFor (kindOf code) e (target a)) (same .byte 4 (omega arith) (omega arith)) exposure-same
+      ∙ ap (criterionFor (kindOf (kind b)) (exposureOf b)) target-same
 
   reading-same : readingOf a ≡ readingOf b
   reading-same = rw (u64-same 16 (omega arith) (omega arith), u64-same 24 (omega arith) (omega arith))

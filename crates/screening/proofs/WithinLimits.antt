@@ -10,31 +10,31 @@ use lib.Dec.{ltb, eqb}
 use Rattle.refusals.proofs.FirstMet.{neither}
 use Rattle.screening.specs.declared.exposure.Group.{Group}
 use Rattle.screening.specs.declared.exposure.Exposure.{Exposure}
-use Rattle.screening.specs.Exposure.{Z, maxDays, maxYears, maxHours, maxBreathing, groupOutOfRange, exposureOutOfRange}
+use Rattle.screening.specs.Exposure.{Z, maxDays, maxYears, maxQuarterHours, maxBreathing, groupOutOfRange, exposureOutOfRange}
 
 pub record GroupWithin (g : Group) : Type 0 where
   pub days : g .days ≤ maxDays
   pub years : g .years ≤ maxYears
-  pub hours : g .hours ≤ maxHours
+  pub quarters : g .«quarter_hours» ≤ maxQuarterHours
   pub breathing : g .breathing ≤ maxBreathing
 
 pub group-within : (g : Group) → groupOutOfRange g ≡ false → GroupWithin g
 group-within g e =
-    let three = neither (ltb maxDays (g .days) || ltb maxYears (g .years) || ltb maxHours (g .hours)) (ltb maxBreathing (g .breathing)) e in
-    let two = neither (ltb maxDays (g .days) || ltb maxYears (g .years)) (ltb maxHours (g .hours)) (three .0) in
+    let three = neither (ltb maxDays (g .days) || ltb maxYears (g .years) || ltb maxQuarterHours (g .«quarter_hours»)) (ltb maxBreathing (g .breathing)) e in
+    let two = neither (ltb maxDays (g .days) || ltb maxYears (g .years)) (ltb maxQuarterHours (g .«quarter_hours»)) (three .0) in
     let one = neither (ltb maxDays (g .days)) (ltb maxYears (g .years)) (two .0) in
     record {
       days = ltb-false maxDays (g .days) (one .0);
       years = ltb-false maxYears (g .years) (one .1);
-      hours = ltb-false maxHours (g .hours) (two .1);
+      quarters = ltb-false maxQuarterHours (g .«quarter_hours») (two .1);
       breathing = ltb-false maxBreathing (g .breathing) (three .1);
     }
 
 pub group-years : (g : Group) → GroupWithin g → g .days * g .years ≤ maxDays * maxYears
 group-years g l = mul-le-mul (l .days) (l .years)
 
-pub group-hours : (g : Group) → GroupWithin g → g .days * g .years * g .hours ≤ maxDays * maxYears * maxHours
-group-hours g l = mul-le-mul (group-years g l) (l .hours)
+pub group-quarters : (g : Group) → GroupWithin g → g .days * g .years * g .«quarter_hours» ≤ maxDays * maxYears * maxQuarterHours
+group-quarters g l = mul-le-mul (group-years g l) (l .quarters)
 
 pub record ExposureWithin (e : Exposure) : Type 0 where
   pub child : groupOutOfRange (e .child) ≡ false

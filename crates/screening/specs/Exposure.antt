@@ -1,4 +1,4 @@
--- X, Y and Z over both groups (document 01, "Verdict"), and ground 6.
+-- X, Y and Z over both groups (document 01, "Verdict"), and ground 6. ET is in quarter hours (document 02, R-1).
 use Prim.Native.Nat.{ℕ, _+_, _*_}
 use mathlib.Core.Bool.{Bool, cond, _||_}
 use lib.Dec.{ltb, eqb}
@@ -11,12 +11,12 @@ use Rattle.screening.specs.declared.exposure.ExposureAnswer.{ExposureAns
 -- The sum of EF·ED·ET·IRA.
 abbrev pub X : Exposure → ℕ
 X e =
-    e .child .days * e .child .years * e .child .hours * e .child .breathing
-    + e .adult .days * e .adult .years * e .adult .hours * e .adult .breathing
+    e .child .days * e .child .years * e .child .«quarter_hours» * e .child .breathing
+    + e .adult .days * e .adult .years * e .adult .«quarter_hours» * e .adult .breathing
 
 -- The sum of EF·ED·ET.
 abbrev pub Y : Exposure → ℕ
-Y e = e .child .days * e .child .years * e .child .hours + e .adult .days * e .adult .years * e .adult .hours
+Y e = e .child .days * e .child .years * e .child .«quarter_hours» + e .adult .days * e .adult .years * e .adult .«quarter_hours»
 
 -- The sum of ED.
 abbrev pub Z : Exposure → ℕ
@@ -24,13 +24,13 @@ Z e = e .child .years + e .adult .years
 
 -- The defaults of source 001, supplied by name: a resident and a worker.
 abbrev pub group : ℕ → ℕ → ℕ → ℕ → Group
-group days years hours breathing = record { days = days; years = years; hours = hours; breathing = breathing }
+group days years quarters breathing = record { days = days; years = years; «quarter_hours» = quarters; breathing = breathing }
 
 abbrev pub residential : Exposure
-residential = record { child = group 350 6 24 10; adult = group 350 20 24 20 }
+residential = record { child = group 350 6 96 10; adult = group 350 20 96 20 }
 
 abbrev pub worker : Exposure
-worker = record { child = group 0 0 0 0; adult = group 250 25 8 60 }
+worker = record { child = group 0 0 0 0; adult = group 250 25 32 60 }
 
 abbrev pub maxDays : ℕ
 maxDays = 366
@@ -38,15 +38,15 @@ maxDays = 366
 abbrev pub maxYears : ℕ
 maxYears = 100
 
-abbrev pub maxHours : ℕ
-maxHours = 24
+abbrev pub maxQuarterHours : ℕ
+maxQuarterHours = 96
 
 abbrev pub maxBreathing : ℕ
 maxBreathing = 100
 
--- 6. A group has EF over 366, ED over 100, ET over 24 or IRA over 100, or Z is 0.
+-- 6. A group has EF over 366, ED over 100, ET over 96 or IRA over 100, or Z is 0.
 abbrev pub groupOutOfRange : Group → Bool
-groupOutOfRange g = ltb maxDays (g .days) || ltb maxYears (g .years) || ltb maxHours (g .hours) || ltb maxBreathing (g .breathing)
+groupOutOfRange g = ltb maxDays (g .days) || ltb maxYears (g .years) || ltb maxQuarterHours (g .«quarter_hours») || ltb maxBreathing (g .breathing)
 
 unfoldable pub exposureOutOfRange : Exposure → Bool
 exposureOutOfRange e = groupOutOfRange (e .child) || groupOutOfRange (e .adult) || eqb (Z e) 0

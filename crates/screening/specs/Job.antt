@@ -55,10 +55,10 @@ concentrationOf job = forReading concentration job
 abbrev pub intakeOf : List ℕ → Intake
 intakeOf job = forReading intakeAnswer job
 
--- A group is four u16: EF, ED, ET, IRA.
+-- A group is four u16: EF, ED, ET, IRA. ET is in quarter hours.
 abbrev pub groupAt : List ℕ → ℕ → Group
 groupAt job at =
-    record { days = u16At job at; years = u16At job (at + 2); hours = u16At job (at + 4); breathing = u16At job (at + 6) }
+    record { days = u16At job at; years = u16At job (at + 2); «quarter_hours» = u16At job (at + 4); breathing = u16At job (at + 6) }
 
 abbrev pub exposureOf : List ℕ → Exposure
 exposureOf job = record { child = groupAt job 32; adult = groupAt job 40 }

@@ -4,5 +4,6 @@ pub mod JobGrounds
 pub mod Verdict
 pub mod WorkingLevels
 pub mod Screening
+pub mod WholeHours
 pub mod Promises
 pub mod Private

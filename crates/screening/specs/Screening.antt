@@ -12,15 +12,19 @@ use Rattle.screening.specs.Exposure.{X, Y, Z}
 use Rattle.screening.specs.JobGrounds.{checkedJob}
 use Rattle.screening.specs.Verdict.{Assessment, kindOf, weightOf, boundOf, verdictAt, level}
 use Rattle.screening.specs.WorkingLevels.{alphaSum, workingLevels}
+use Rattle.screening.specs.declared.exposure.Exposure.{Exposure}
 use Rattle.screening.specs.declared.job.Answer.{Answer}
 use Rattle.screening.specs.declared.job.Figures.{Figures}
 use Rattle.screening.specs.declared.job.Outcome.{Outcome}
 use Rattle.screening.specs.declared.verdict.Criterion.{Criterion}
+use Rattle.screening.specs.declared.verdict.Kind.{Kind}
 
--- What a job's room is judged by.
+-- What a room is judged by.
+abbrev pub criterionFor : Kind → Exposure → ℕ → Criterion
+criterionFor kind e target = record { kind = kind; x = X e; y = Y e; z = Z e; target = target }
+
 abbrev pub criterionOf : List ℕ → Criterion
-criterionOf job =
-    record { kind = kindOf (kind job); x = X (exposureOf job); y = Y (exposureOf job); z = Z (exposureOf job); target = target job }
+criterionOf job = criterionFor (kindOf (kind job)) (exposureOf job) (target job)
 
 -- What the verdict on a book is reached on, with the coefficients in use, at a rate.
 abbrev pub assessmentAt : Criterion → List ℕ → (ℕ → ℕ → ℕ) → ℕ → Assessment

@@ -28,10 +28,10 @@ submersion Kind.Dose = 3
 abbrev pub weightOf : Criterion → (ℕ → ℕ → ℕ) → ℕ → ℕ
 weightOf by coefficient i = 365 * by .x * coefficient i (inhalation (by .kind)) + by .y * coefficient i (submersion (by .kind))
 
--- B.
+-- B. Its factor 4 matches the quarter hours of X and Y (document 02, R-1).
 abbrev pub bound : Kind → ℕ → ℕ → ℕ
-bound Kind.Risk Z target = target * 37 * 8760 * 10 ^ 8 * G
-bound Kind.Dose Z target = target * Z * 37 * 8760 * 10 ^ 7 * G
+bound Kind.Risk Z target = target * 37 * (4 * 8760) * 10 ^ 8 * G
+bound Kind.Dose Z target = target * Z * 37 * (4 * 8760) * 10 ^ 7 * G
 
 abbrev pub boundOf : Criterion → ℕ
 boundOf by = bound (by .kind) (by .z) (by .target)

@@ -2,21 +2,21 @@
 ghost use mathlib.Core.Path.{_≡_};
 ghost use mathlib.Core.Bool.{false};
 ghost use Prim.Native.Nat.{_*_, _≤_};
-ghost use Rattle.screening.specs.Exposure.{X, Y, Z, groupOutOfRange, exposureOutOfRange, exposureAnswer, residential, worker, maxDays, maxYears, maxHours, maxBreathing};
+ghost use Rattle.screening.specs.Exposure.{X, Y, Z, groupOutOfRange, exposureOutOfRange, exposureAnswer, residential, worker, maxDays, maxYears, maxQuarterHours, maxBreathing};
 
 const MAX_DAYS: u16 = 366;
 
 const MAX_YEARS: u16 = 100;
 
-const MAX_HOURS: u16 = 24;
+const MAX_QUARTER_HOURS: u16 = 96;
 
 const MAX_BREATHING: u16 = 100;
 
-// A group's days per year EF, years ED, hours per day ET and breathing IRA in m³ per day.
+// A group's days per year EF, years ED, quarter hours per day ET and breathing IRA in m³ per day.
 pub struct Group {
     pub days: u16,
     pub years: u16,
-    pub hours: u16,
+    pub quarter_hours: u16,
     pub breathing: u16,
 }
 
@@ -37,13 +37,13 @@ impl Exposure {
         child: Group {
             days: 350,
             years: 6,
-            hours: 24,
+            quarter_hours: 96,
             breathing: 10,
         },
         adult: Group {
             days: 350,
             years: 20,
-            hours: 24,
+            quarter_hours: 96,
             breathing: 20,
         },
     };
@@ -52,13 +52,13 @@ impl Exposure {
         child: Group {
             days: 0,
             years: 0,
-            hours: 0,
+            quarter_hours: 0,
             breathing: 0,
         },
         adult: Group {
             days: 250,
             years: 25,
-            hours: 8,
+            quarter_hours: 32,
             breathing: 60,
         },
     };
@@ -101,33 +101,33 @@ fn group_out_of_range(group: Group) -> bool
 {
     (group.days > MAX_DAYS)
         | (group.years > MAX_YEARS)
-        | (group.hours > MAX_HOURS)
+        | (group.quarter_hours > MAX_QUARTER_HOURS)
         | (group.breathing > MAX_BREATHING)
 }
 
 // A group's EF·ED·ET.
-fn group_hours(group: Group) -> u64
+fn group_quarter_hours(group: Group) -> u64
     requires { ⌜ groupOutOfRange group ≡ false ⌝ }
-    ensures value { λ r. ⌜ r ≡ group .days * group .years * group .hours ⌝ }
-    ensures range { λ r. ⌜ r ≤ maxDays * maxYears * maxHours ⌝ }
+    ensures value { λ r. ⌜ r ≡ group .days * group .years * group .«quarter_hours» ⌝ }
+    ensures range { λ r. ⌜ r ≤ maxDays * maxYears * maxQuarterHours ⌝ }
 {
-    group.days as u64 * group.years as u64 * group.hours as u64
+    group.days as u64 * group.years as u64 * group.quarter_hours as u64
 }
 
 // A group's EF·ED·ET·IRA.
 fn group_air(group: Group) -> u64
     requires { ⌜ groupOutOfRange group ≡ false ⌝ }
-    ensures value { λ r. ⌜ r ≡ group .days * group .years * group .hours * group .breathing ⌝ }
-    ensures range { λ r. ⌜ r ≤ maxDays * maxYears * maxHours * maxBreathing ⌝ }
+    ensures value { λ r. ⌜ r ≡ group .days * group .years * group .«quarter_hours» * group .breathing ⌝ }
+    ensures range { λ r. ⌜ r ≤ maxDays * maxYears * maxQuarterHours * maxBreathing ⌝ }
 {
-    group_hours(group) * group.breathing as u64
+    group_quarter_hours(group) * group.breathing as u64
 }
 
 // X, Y and Z sum over both groups.
 pub(crate) fn x(exposure: Exposure) -> u64
     requires { ⌜ exposureOutOfRange exposure ≡ false ⌝ }
     ensures value { λ r. ⌜ r ≡ X exposure ⌝ }
-    ensures range { λ r. ⌜ r ≤ 2 * (maxDays * maxYears * maxHours * maxBreathing) ⌝ }
+    ensures range { λ r. ⌜ r ≤ 2 * (maxDays * maxYears * maxQuarterHours * maxBreathing) ⌝ }
 {
     group_air(exposure.child) + group_air(exposure.adult)
 }
@@ -135,9 +135,9 @@ pub(crate) fn x(exposure: Exposure) -> u64
 pub(crate) fn y(exposure: Exposure) -> u64
     requires { ⌜ exposureOutOfRange exposure ≡ false ⌝ }
     ensures value { λ r. ⌜ r ≡ Y exposure ⌝ }
-    ensures range { λ r. ⌜ r ≤ 2 * (maxDays * maxYears * maxHours) ⌝ }
+    ensures range { λ r. ⌜ r ≤ 2 * (maxDays * maxYears * maxQuarterHours) ⌝ }
 {
-    group_hours(exposure.child) + group_hours(exposure.adult)
+    group_quarter_hours(exposure.child) + group_quarter_hours(exposure.adult)
 }
 
 pub(crate) fn z(exposure: Exposure) -> u64

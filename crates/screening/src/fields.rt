@@ -132,7 +132,7 @@ fn group_at(job: &[u8], at: u32) -> Group
     Group {
         days: u16_at(job, at) as u16,
         years: u16_at(job, at + 2) as u16,
-        hours: u16_at(job, at + 4) as u16,
+        quarter_hours: u16_at(job, at + 4) as u16,
         breathing: u16_at(job, at + 6) as u16,
     }
 }

@@ -19,7 +19,8 @@ const MAX_LEVEL: u32 = 4_000_000_000;
 // 1 pCi is so many mBq.
 const MILLIBECQUERELS: u64 = 37;
 
-const HOURS_PER_YEAR: u64 = 8_760;
+// 4 × 8,760, since the exposure is in quarter hours.
+const QUARTER_HOURS_PER_YEAR: u64 = 35_040;
 
 // What B has besides, for billionths of risk and for thousandths of mrem.
 const RISK_SCALE: u32 = 100_000_000;
@@ -73,9 +74,12 @@ fn bound_of(by: Criterion) -> [u32; 6]
     let kind = by.kind;
     let target = by.target as u64;
     match kind {
-        Kind::Risk => in_grains(target * MILLIBECQUERELS * HOURS_PER_YEAR, RISK_SCALE),
+        Kind::Risk => in_grains(
+            target * MILLIBECQUERELS * QUARTER_HOURS_PER_YEAR,
+            RISK_SCALE,
+        ),
         Kind::Dose => in_grains(
-            target * by.z as u64 * MILLIBECQUERELS * HOURS_PER_YEAR,
+            target * by.z as u64 * MILLIBECQUERELS * QUARTER_HOURS_PER_YEAR,
             DOSE_SCALE,
         ),
     }

@@ -1,0 +1,88 @@
+-- An exposure in whole hours, restated in quarter hours, has four times its X and Y, and B has the factor 4 too: so verdict and level
+-- are document 01's own. Ground 6 is met by the same exposures, since 4 times a number passes 96 where the number passes 24.
+use Prim.Native.Nat.{ℕ, _+_, _*_}
+use native.Mathlib.Omega.{arith}
+use mathlib.Core.Path.{_≡_, refl, ap, ap₂, sym, _∙_}
+use mathlib.Core.Bool.{Bool, true, false}
+use mathlib.Core.List.{List}
+use lib.Dec.{ltb}
+use borrow.Author.Tests.{ltb-true, ltb-false, lt-ltb, le-ltb}
+use Rattle.book.specs.Fields.{coefficient}
+use Rattle.screening.specs.Job.{rate, kind, target, exposureOf, bookOf}
+use Rattle.screening.specs.Exposure.{X, Y, exposureOutOfRange}
+use Rattle.screening.specs.Verdict.{Assessment, kindOf, bound, verdictAt, level}
+use Rattle.screening.specs.Screening.{criterionFor, assessmentAt, answerOf}
+use Rattle.screening.specs.WholeHours.{HoursExposure, inQuarters, hoursX, hoursY, hoursZ, hoursOutOfRange, hoursBound, hoursAssessment, hoursAssessmentOf}
+use Rattle.screening.specs.Promises.{CommonFactor, Unchanged, WholeHoursPromise}
+use Rattle.screening.specs.declared.exposure.Exposure.{Exposure}
+use Rattle.screening.specs.declared.job.Figures.{Figures}
+use Rattle.screening.specs.declared.job.Outcome.{Outcome}
+use Rattle.screening.specs.declared.verdict.Kind.{Kind}
+use Rattle.screening.proofs.CommonFactor.{common-factor}
+use Rattle.screening.proofs.Answers.{verdict-is, level-is, concentration-is}
+
+over-by : (h : ℕ) (t : Bool) → ltb 24 h ≡ t → ltb 96 (4 * h) ≡ t
+over-by h true e = lt-ltb 96 (4 * h) (omega (arith, ltb-true 24 h e))
+over-by h false e = le-ltb 96 (4 * h) (omega (arith, ltb-false 24 h e))
+
+over-same : (h : ℕ) → ltb 96 (4 * h) ≡ ltb 24 h
+over-same h = over-by h (ltb 24 h) refl
+
+ground : (e : HoursExposure) → exposureOutOfRange (inQuarters e) ≡ hoursOutOfRange e
+unfolding exposureOutOfRange
+ground e = rw (over-same (e .child .hours), over-same (e .adult .hours))
+
+x-restated : (e : HoursExposure) → X (inQuarters e) ≡ 4 * hoursX e
+x-restated e = omega arith
+
+y-restated : (e : HoursExposure) → Y (inQuarters e) ≡ 4 * hoursY e
+y-restated e = omega arith
+
+weight-carries : (x y h s : ℕ) {x′ y′ : ℕ} → x′ ≡ 4 * x → y′ ≡ 4 * y → 365 * x′ * h + y′ * s ≡ 4 * (365 * x * h + y * s)
+weight-carries x y h s ex ey = rw (ex, ey) (omega arith)
+
+bound-restated : (kind : Kind) (Z target : ℕ) → bound kind Z target ≡ 4 * hoursBound kind Z target
+bound-restated Kind.Risk Z target = omega arith
+bound-restated Kind.Dose Z target = omega arith
+
+module _ (kind : Kind) (e : HoursExposure) (target : ℕ) (book : List ℕ) (coefficient : ℕ → ℕ → ℕ) (v : ℕ) where
+  four-times :
+      CommonFactor 4 (hoursAssessment kind e target book coefficient v) (assessmentAt (criterionFor kind (inQuarters e) target) book coefficient v)
+  four-times =
+      record {
+        count = refl;
+        weight = λ i l. weight-carries (hoursX e) (hoursY e) _ _ (x-restated e) (y-restated e);
+        factor = λ i l. refl;
+        bound = bound-restated kind (hoursZ e) target;
+      }
+
+  judged : Unchanged (hoursAssessment kind e target book coefficient v) (assessmentAt (criterionFor kind (inQuarters e) target) book coefficient v)
+  judged = common-factor 4 (omega arith) _ _ four-times
+
+module _
+    (job : List ℕ) (e : HoursExposure) (figures : Figures) (same : exposureOf job ≡ inQuarters e) (answered : answerOf job .outcome ≡ Outcome.Screened figures)
+  where
+    abbrev assessed : Exposure → Assessment
+    assessed x = assessmentAt (criterionFor (kindOf (kind job)) x (target job)) (bookOf job) (coefficient (bookOf job)) (rate job)
+
+    unchanged : Unchanged (hoursAssessmentOf job e) (assessed (inQuarters e))
+    unchanged = judged (kindOf (kind job)) e (target job) (bookOf job) (coefficient (bookOf job)) (rate job)
+
+    verdict-restated : figures .verdict ≡ verdictAt (hoursAssessmentOf job e) (figures .concentration)
+    verdict-restated =
+        verdict-is job figures answered
+        ∙ ap₂ (λ x C. verdictAt (assessed x) C) same (sym (concentration-is job figures answered))
+        ∙ unchanged .verdict (figures .concentration)
+
+    level-restated : figures .level ≡ level (hoursAssessmentOf job e)
+    level-restated = level-is job figures answered ∙ ap (λ x. level (assessed x)) same ∙ unchanged .level
+
+pub whole-hours : WholeHoursPromise
+whole-hours =
+    record {
+      residential = refl;
+      worker = refl;
+      ground = ground;
+      judged = judged;
+      answer = λ job e figures same answered. (verdict-restated job e figures same answered, level-restated job e figures same answered);
+    }
