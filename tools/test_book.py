@@ -15,9 +15,10 @@ from fractions import Fraction
 
 import test_command
 from textform import grounds, remarks
-from textform.decode import decode
+from textform.decode import decode, group_lines
 from textform.encode import encode
-from textform.text import read_text
+from textform.hours import hours_text, quarters_of
+from textform.text import Group, Text, groups_of, read_text
 from textform.words import Mistake, half_life, number_of, reading, reading_text
 
 HERE = pathlib.Path(__file__).resolve().parent
@@ -70,7 +71,7 @@ def test_bytes():
     """Every field in its place, by hand."""
     data = encode(RADON)
     head = struct.pack("<IBBBBIIdd", 18, 0, 0, 0, 0, 1_610, 1_000_000, 4.0, 0.5)
-    groups = struct.pack("<8H", 350, 6, 24, 10, 350, 20, 24, 20)
+    groups = struct.pack("<8H", 350, 6, 96, 10, 350, 20, 96, 20)  # 24 hours are 96 quarters
     members = struct.pack("<Q5IBBBB", 330_350_400_000_000, 0, 0, 0, 0, 0, 0, 0, 0, 0)
     members += struct.pack("<Q5IBBBB", 186_000_000_000, 1_000, 0, 0, 0, 61_134, 1, 0, 0, 0)
     members += struct.pack("<Q5IBBBB", 1_608_000_000_000, 0, 7, 0, 0, 0, 2, 0, 0, 0)
@@ -176,7 +177,78 @@ def test_exposures():
     assert encode(changed(groups, "exposure residential\n")) == encode(RADON)
     worker = encode(changed(groups, "exposure worker\n"))
     assert worker == encode(changed(groups, "child 0 0 0 0\nadult 250 25 8 60\n"))
-    assert "exposure worker" in decode(worker) and encode(decode(worker)) == worker
+    assert struct.unpack_from("<8H", worker, 32) == (0, 0, 0, 0, 250, 25, 32, 60)
+    assert encode(decode(worker)) == worker
+    assert "exposure worker  # child 0 0 0 0, adult 250 25 8 60\n" in decode(worker)
+    assert "exposure residential  # child 350 6 24 10, adult 350 20 24 20\n" in decode(encode(RADON))
+
+
+# ---- Hours: whole quarters, as people say them --------------------------------------------------
+
+
+def with_hours(said):
+    return changed("adult 350 20 24 20", f"adult 250 25 {said} 60")
+
+
+def test_hours():
+    """The field holds quarter hours, by whichever form they are said."""
+    for said, quarters, back in (
+        (("7.75", "7:45", "7 h 45", "7h45", "7h 45", "7.750"), 31, "7:45"),
+        (("7.5", "7:30", "7 h 30", "07:30"), 30, "7:30"),
+        (("8", "8.0", "8:00", "8 h 00", "8 h 0"), 32, "8"),
+        ((".25", "0.25", "0:15", "0 h 15"), 1, "0:15"),
+        (("24", "24:00", "24 h 00"), 96, "24"),
+        (("16383.75", "16383:45"), 65_535, "16383:45"),
+    ):
+        for words in said:
+            data = encode(with_hours(words))
+            assert struct.unpack_from("<4H", data, 40) == (250, 25, quarters, 60), words
+        assert f"adult 250 25 {back} 60\n" in decode(data) and encode(decode(data)) == data
+
+
+def test_hours_round_trip():
+    """Every number that the field can hold, in either group."""
+    for quarters in range(1 << 16):
+        groups = (Group(350, 6, quarters, 10), Group(350, 20, 65_535 - quarters, 20))
+        assert groups_of(Text("\n".join(group_lines(*groups)))) == groups
+        assert quarters_of([hours_text(quarters)], "adult", 1) == quarters
+
+
+def test_hours_refused():
+    """What is no quarter is never rounded, and what is left out never made up for by the next number."""
+    for words, part in (
+        ("7.8", "7.8: whole quarter hours, so 7.75 or 8 (7:45 or 8:00); the longer one errs on the safe side"),
+        ("7:50", "7:50: whole quarter hours, so 7.75 or 8 (7:45 or 8:00)"),
+        ("7 h 10", "7 h 10: whole quarter hours, so 7 or 7.25 (7:00 or 7:15)"),
+        ("7 h 5", "7 h 5: whole quarter hours, so 7 or 7.25 (7:00 or 7:15)"),
+        ("7.45", "7.45: whole quarter hours, so 7.25 or 7.5 (7:15 or 7:30); the longer one errs on the safe side; "
+                 "7 hours 45 minutes are 7:45"),
+        ("1e-99", "1e-99: whole quarter hours, so 0 or 0.25 (0:00 or 0:15)"),
+        ("23.9", "23.9: whole quarter hours, so 23.75 or 24 (23:45 or 24:00)"),
+        ("24.1", "24.1: at most 24"),
+        ("16384", "16384: at most 24"),
+        ("16383:59", "16383:59: at most 24"),
+        ("1e99", "1e99: at most 24"),
+        (f"{'9' * 50}:45", "a number has at most 40 characters"),
+        ("7,75", "7,75: hours such as 8, 7.75, 7:45 or 7 h 45; after : or h stand the minutes, 00, 15, 30 or 45, without commas"),
+        *((words, f"{words}: hours such as") for words in ("7:5", "7:60", "7:450", "7:4x", ":45", "7:", "7.5:30", "-7", "7 45")),
+        *((words, f"{words}: hours such as") for words in ("7 h", "7h", "h 45", "7 h 60", "7 h 45 min", "7 h 45 0", "h")),
+    ):
+        assert mistake_of(encode, with_hours(words)).startswith("line 10: adult, hours per day, "), words
+        assert part in mistake_of(encode, with_hours(words)), words
+    for rest in ("250 25 7 h 45", "250 25 7h 45", "250 25 7h45", "250 7 h 45 60", "250 25 7:45", "25 7:45 60", "250 7:45 25 60"):
+        assert mistake_of(encode, changed("adult 350 20 24 20", f"adult {rest}")).startswith("line 10: adult"), rest
+
+
+def test_hours_warned():
+    """Over 24 the bytes can be written, and the warning speaks of hours too."""
+    for words in ("24.25", "24:15", "24 h 15"):
+        text = with_hours(words)
+        assert encode(text)[44:46] == bytes((97, 0))
+        assert remarks.grounds(*read_text(text)) == [(6, 10, "adult, hours per day, 24:15: at most 24")]
+    assert foreseen(with_hours("24")) == foreseen(with_hours("24:00")) == []
+    child = changed("child 350 6 24 10", "child 350 6 25 10")
+    assert remarks.grounds(*read_text(child)) == [(6, 9, "child, hours per day, 25: at most 24")]
 
 
 # ---- Mistakes -----------------------------------------------------------------------------------
@@ -267,6 +339,7 @@ def test_any_text():
     """Whatever the text and whatever the bytes: an answer or a mistake, and nothing else."""
     chance = random.Random(3)
     words = RADON.split() + ["\n", "0", "1e9", "-", "_", ".", "\0", "\ud7ff", "\u00a0", "#", "16", "exposure", "number", "9" * 90]
+    words += ["h", "7:45", "7.8", "7h", ":"]
     for _ in range(2_000):
         lines = RADON.split("\n")
         for _ in range(chance.randrange(1, 4)):
@@ -313,7 +386,8 @@ def test_grounds_foreseen():
         (changed("attenuation 1_000_000", "attenuation 1_000_001", soil), 5, 6),
         (changed("attenuation 1_000_000", "attenuation 0", soil), None, 0),
         (changed("child 350", "child 367"), 6, 9),
-        (changed("adult 350 20 24", "adult 350 20 25"), 6, 10),
+        (changed("adult 350 20 24", "adult 350 20 24:15"), 6, 10),
+        (changed("adult 350 20 24", "adult 350 20 23:45"), None, 0),
         (changed("child 350 6", "child 350 0").replace("adult 350 20", "adult 350 0"), 6, 10),
         (changed("value 4.0", "value -0"), 7, 7),
         (changed("uncertainty 0.5", "uncertainty 0x7ff8000000000000"), 7, 8),

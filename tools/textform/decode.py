@@ -3,7 +3,7 @@
 import struct
 
 from .chain import COEFFICIENTS, numbers_of_names
-from .text import EXPOSURES, KINDS, MEDIA, UNITS, Text
+from .text import EXPOSURES, KINDS, MEDIA, UNITS, Group, Text
 from .words import Mistake, reading_text
 
 
@@ -21,7 +21,7 @@ def need_zero(data, where):
 
 
 def group_lines(child, adult):
-    numbers = ["child " + " ".join(map(str, child)), "adult " + " ".join(map(str, adult))]
+    numbers = [" ".join(("child", *child.words())), " ".join(("adult", *adult.words()))]
     for name, groups in EXPOSURES.items():
         if groups == (child, adult):
             return [f"exposure {name}  # {', '.join(numbers)}"]
@@ -42,7 +42,7 @@ def decode_job(data):
         f"attenuation {AF}",
         f"value {reading_text(value)}",
         f"uncertainty {reading_text(uncertainty)}",
-    ] + group_lines(groups[:4], groups[4:])
+    ] + group_lines(Group(*groups[:4]), Group(*groups[4:]))
 
 
 def walked(first, feeds):

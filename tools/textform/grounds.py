@@ -10,7 +10,8 @@ GROUNDS = {
         "attenuation, medium",
     ),
     6: (
-        "A group has over 366 days per year, 100 years, 24 hours per day or 100 m3 per day, or neither has a year.",
+        "A group has over 366 days per year, 100 years, 24 hours (96 quarter hours) per day or 100 m3 per day, "
+        "or neither has a year.",
         "exposure, or child and adult",
     ),
     7: ("The value or its uncertainty is negative (minus zero too), infinite or not a number.", "value, uncertainty"),

@@ -8,11 +8,12 @@ from math import ceil
 from typing import NamedTuple
 
 from .chain import COEFFICIENTS, stated
-from .text import GROUP, KINDS, MEDIA, UNITS
+from .hours import MOST_QUARTERS
+from .text import GROUP, KINDS, MEDIA, UNITS, Group
 from .words import number_of
 
 MOST = 4_000_000_000  # of a concentration, a coefficient or a weight
-MOST_IN_GROUP = (366, 100, 24, 100)
+MOST_IN_GROUP = Group(366, 100, MOST_QUARTERS, 100)
 PER_UNIT = (37_000, 37, 1_000)  # mBq/m3 in one of each unit
 SHARES = 100_000
 LONGEST_PARENT, LONGEST_LATER = 10**15, 60_000 * 10**9  # half-lives in nanoseconds
@@ -57,10 +58,11 @@ def group_line(job, word):
 
 def bad_groups(job):
     for word, group in (("child", job.child), ("adult", job.adult)):
-        for number, most, unit in zip(group, MOST_IN_GROUP, GROUP):
-            if number > most:
-                yield Remark(6, group_line(job, word), f"{word}, {unit}, {number}: at most {most}")
-    if job.child[1] + job.adult[1] == 0:
+        for i, unit in enumerate(GROUP):
+            if group[i] > MOST_IN_GROUP[i]:
+                said = f"{word}, {unit}, {group.words()[i]}: at most {MOST_IN_GROUP.words()[i]}"
+                yield Remark(6, group_line(job, word), said)
+    if job.child.years + job.adult.years == 0:
         yield Remark(6, group_line(job, "adult"), "child and adult: one of the two needs years")
 
 

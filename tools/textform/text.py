@@ -4,19 +4,33 @@ import re
 from typing import NamedTuple
 
 from .chain import book_of, member_of
+from .hours import hours_text, quarters_of
 from .words import Mistake, exact, fitting, one_of, reading, shown, whole
 
 KINDS = ("risk", "dose")
 MEDIA = ("indoor-air", "soil-gas", "groundwater")
 UNITS = ("pCi/L", "pCi/m3", "Bq/m3")
-EXPOSURES = {  # the defaults by name: child, adult
-    "residential": ((350, 6, 24, 10), (350, 20, 24, 20)),
-    "worker": ((0, 0, 0, 0), (250, 25, 8, 60)),
-}
 GROUP = ("days per year", "years", "hours per day", "m3 breathed per day")
 TARGETS = ("whole billionths of risk", "whole thousandths of mrem per year")
 JOB_WORDS = ("rate", "kind", "medium", "unit", "target", "attenuation", "value", "uncertainty", "child", "adult")
 LINE_WORDS = JOB_WORDS + ("exposure", "divisor", "member", "feed")
+
+
+class Group(NamedTuple):
+    days: int  # per year
+    years: int
+    quarter_hours: int  # per day
+    breathing: int  # m3 per day
+
+    def words(self):
+        """The numbers as a line says them, which has hours for the quarter hours."""
+        return str(self.days), str(self.years), hours_text(self.quarter_hours), str(self.breathing)
+
+
+EXPOSURES = {  # the defaults by name: child, adult
+    "residential": (Group(350, 6, 96, 10), Group(350, 20, 96, 20)),
+    "worker": (Group(0, 0, 0, 0), Group(250, 25, 32, 60)),
+}
 
 
 class Job(NamedTuple):
@@ -28,8 +42,8 @@ class Job(NamedTuple):
     attenuation: int
     value: int  # the bits of an f64
     uncertainty: int
-    child: tuple
-    adult: tuple
+    child: Group
+    adult: Group
     lines: dict  # the line of each word
 
 
@@ -148,10 +162,13 @@ def groups_of(text):
 
 
 def group_of(text, word):
+    """A group's line. Its hours may be several words, such as `7 h 45`: they are all between the years and the last word."""
     rest, line = text.fields[word]
-    if len(rest) != 4:
+    if len(rest) < 4:
         raise Mistake(f"{word} {shown(' '.join(rest))}: 4 numbers, {', '.join(GROUP)}", line)
-    return tuple(whole(number, 2, f"{word}, {unit},", "a whole number", line) for number, unit in zip(rest, GROUP))
+    what = [f"{word}, {unit}," for unit in GROUP]
+    days, years, breathing = (whole(rest[i], 2, what[i], "a whole number", line) for i in (0, 1, -1))
+    return Group(days, years, quarters_of(rest[2:-1], what[2], line), breathing)
 
 
 def read_text(source):
