@@ -51,9 +51,23 @@ def test_readme(folder):
     shown = [run("encode", "cellar.txt", "cellar.job", cwd=folder)[2]]
     (folder / "cellar.txt").write_text(RADON.read_text().replace("rate 0.18 per hour", "rate 0.18"))
     shown.append(run("encode", "cellar.txt", "cellar.job", cwd=folder)[2])
+    shown += workroom(folder)
     shown += [path.read_text() for path in RADON.parent.glob("*.out")]
     for text in shown:
         assert "".join(f"    {line}\n" for line in text.splitlines()) in readme, text
+
+
+def workroom(folder):
+    """A stay of its own in two lines, and what encode says where its hours are no quarters."""
+    lines, home = "child 0 0 0 0\nadult 250 25 7:45 60", RADON.read_text().splitlines()
+    (at,) = (i for i, line in enumerate(home) if line.startswith("exposure residential"))
+    said = []
+    for group in (lines, lines.replace("7:45", "7.8")):
+        (folder / "cellar.txt").write_text("\n".join(home[:at] + [group] + home[at + 1 :]))
+        said.append(run("encode", "cellar.txt", "cellar.job", cwd=folder))
+    assert [status for status, _, _ in said] == [0, 1]
+    assert (folder / "cellar.job").read_bytes()[44] == 31
+    return [lines, said[1][2]]
 
 
 @folder_test
