@@ -9,7 +9,9 @@
  * Every function answers an int64_t: the answer itself where it is not negative, and minus the number of the refusal otherwise,
  * as in  if (answer == -JELMORAND_BOOK_TOO_SHORT).
  *
- * The bytes of a job and of a chain book are described, with an example, in docs/FORMAT.md.
+ * The bytes of a job and of a chain book are described, with an example, in docs/FORMAT.md. A job's exposure is in quarter hours
+ * per day, 0 to 96. It used to be in whole hours, 0 to 24: a job written so would be taken for a quarter of its exposure, so it
+ * must not be passed.
  */
 #ifndef JELMORAND_H
 #define JELMORAND_H
@@ -40,7 +42,7 @@ enum jelmorand_refusal {
     JELMORAND_TARGET_TOO_HIGH = 4,
     /* the attenuation exceeds 1,000,000, or is not 1,000,000 for indoor air */
     JELMORAND_ATTENUATION_OUT_OF_RANGE = 5,
-    /* a group has days over 366, years over 100, hours over 24 or breathing over 100, or both groups have 0 years */
+    /* a group has days over 366, years over 100, quarter hours over 96 or breathing over 100, or both groups have 0 years */
     JELMORAND_EXPOSURE_OUT_OF_RANGE = 6,
     /* value or uncertainty has its sign bit set (minus zero too), is infinite or is not a number */
     JELMORAND_READING_UNUSABLE = 7,

@@ -53,7 +53,7 @@ static size_t one_feed(uint8_t *book, uint32_t inhalation_risk)
 /* The job's 48 bytes: risk, indoor air, a value in pCi/L without uncertainty, residential exposure. */
 static uint8_t *put_job(uint8_t *at, uint32_t v, uint32_t target, double value)
 {
-    static const uint16_t residential[] = {350, 6, 24, 10, 350, 20, 24, 20};
+    static const uint16_t residential[] = {350, 6, 96, 10, 350, 20, 96, 20};
     uint64_t bits;
     memcpy(&bits, &value, sizeof bits);
     at = put(put(put(at, v, 4), 0, 4), target, 4);

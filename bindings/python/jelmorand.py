@@ -4,9 +4,11 @@
     report = jelmorand.screen(open("room.job", "rb").read())
     print(report.verdict, report.concentration, report.level)
 
-A job is 48 bytes, followed by a chain book; docs/FORMAT.md has the bytes. The shared object is the file that JELMORAND_SO names,
-or libjelmorand.so beside this file. The functions in it are proved to answer what their contracts in crates/jelmorand say, for
-every input; this module, which calls them and reads a report's text, is not proved.
+A job is 48 bytes, followed by a chain book; docs/FORMAT.md has the bytes. Its exposure is in quarter hours per day, 0 to 96: a job
+written in whole hours, as jobs used to be, must not be passed.
+
+The shared object is the file that JELMORAND_SO names, or libjelmorand.so beside this file. The functions in it are proved to answer
+what their contracts in crates/jelmorand say, for every input; this module, which calls them and reads a report's text, is not proved.
 """
 
 import ctypes
@@ -29,7 +31,7 @@ GROUNDS = {
     3: "the rate exceeds 100,000",
     4: "the target exceeds 1,000,000,000",
     5: "the attenuation exceeds 1,000,000, or is not 1,000,000 for indoor air",
-    6: "a group has days over 366, years over 100, hours over 24 or breathing over 100, or both groups have 0 years",
+    6: "a group has days over 366, years over 100, quarter hours over 96 or breathing over 100, or both groups have 0 years",
     7: "value or uncertainty has its sign bit set (minus zero too), is infinite or is not a number",
     8: "a converted part, their sum or the concentration exceeds 4,000,000,000 mBq/m3",
     9: "the book has fewer than 8 bytes",

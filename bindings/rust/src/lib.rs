@@ -4,7 +4,8 @@
 //! What is not proved is this crate: that it declares them as they are, and that it reads a report's text as it should.
 //!
 //! A job is 48 bytes, followed by a chain book; `docs/FORMAT.md` has the bytes. The job here is a gas alone with an inhalation
-//! risk of 1,000, at 1 pCi/L of indoor air in a home, against a target of 1,610 billionths:
+//! risk of 1,000, at 1 pCi/L of indoor air in a home, against a target of 1,610 billionths. Exposure is in quarter hours per day,
+//! 0 to 96; a job written in whole hours, as jobs used to be, must not be passed.
 //!
 //! ```
 //! let mut job = Vec::new();
@@ -14,8 +15,8 @@
 //! job.extend(1_000_000u32.to_le_bytes()); // attenuation: none
 //! job.extend(1.0f64.to_le_bytes()); // value
 //! job.extend(0.0f64.to_le_bytes()); // uncertainty
-//! for number in [350u16, 6, 24, 10, 350, 20, 24, 20] {
-//!     job.extend(number.to_le_bytes()); // child, then adult: days, years, hours, breathing
+//! for number in [350u16, 6, 96, 10, 350, 20, 96, 20] {
+//!     job.extend(number.to_le_bytes()); // child, then adult: days, years, quarter hours, breathing
 //! }
 //! let mut book = vec![1, 0]; // one member, no feeds
 //! book.extend(1_000u16.to_le_bytes()); // working level divisor

@@ -33,7 +33,7 @@ grounds! {
     RateTooHigh = 3, "the rate exceeds 100,000";
     TargetTooHigh = 4, "the target exceeds 1,000,000,000";
     AttenuationOutOfRange = 5, "the attenuation exceeds 1,000,000, or is not 1,000,000 for indoor air";
-    ExposureOutOfRange = 6, "a group has days over 366, years over 100, hours over 24 or breathing over 100, or both groups have 0 years";
+    ExposureOutOfRange = 6, "a group has days over 366, years over 100, quarter hours over 96 or breathing over 100, or both groups have 0 years";
     ReadingUnusable = 7, "value or uncertainty has its sign bit set (minus zero too), is infinite or is not a number";
     ConcentrationTooHigh = 8, "a converted part, their sum or the concentration exceeds 4,000,000,000 mBq/m3";
     BookTooShort = 9, "the book has fewer than 8 bytes";
