@@ -162,7 +162,7 @@ pub fn any_job(random: &mut Random) -> Vec<u8> {
     job.extend(any_part(random).to_le_bytes());
     job.extend(any_part(random).to_le_bytes());
     for _ in 0..2 {
-        for most in [366, 100, 24, 100] {
+        for most in [366, 100, 96, 100] {
             job.extend((random.within(0, most) as u16).to_le_bytes());
         }
     }

@@ -43,7 +43,7 @@ fn thin_job(random: &mut Random) -> Vec<u8> {
     job.extend(1_000_000u32.to_le_bytes());
     job.extend((random.of_any_size(4_000_000) as f64).to_le_bytes());
     job.extend(0f64.to_le_bytes());
-    job.extend([350u16, 6, 24, 10, 350, 20, 24, 20].iter().flat_map(|number| number.to_le_bytes()));
+    job.extend([350u16, 6, 96, 10, 350, 20, 96, 20].iter().flat_map(|number| number.to_le_bytes()));
     job.extend(book);
     job
 }

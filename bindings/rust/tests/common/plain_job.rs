@@ -1,4 +1,5 @@
-//! A whole job's report, rewritten from document 01. Sums stay below 2^128 since the concentration is divided out of them.
+//! A whole job's report, rewritten from document 01 and R-1 of document 02. Sums stay below 2^128 since the concentration is
+//! divided out of them.
 use super::plain::{balance, read, Chain, GRAINS};
 use std::fmt::Write;
 
@@ -13,7 +14,7 @@ impl Job<'_> {
         self.bytes[at..at + size].iter().rev().fold(0, |sum, byte| sum << 8 | u64::from(*byte))
     }
 
-    /// Days, years, hours and breathing of the child group, then of the adult group.
+    /// Days, years, quarter hours and breathing of the child group, then of the adult group.
     fn groups(&self) -> [[u128; 4]; 2] {
         [32, 40].map(|at| [0, 2, 4, 6].map(|k| u128::from(self.number(at + k, 2))))
     }
@@ -54,7 +55,7 @@ fn concentration(job: &Job) -> Option<u128> {
 fn refused_field(job: &Job) -> Option<u32> {
     let [kind, medium, unit, zero] = [4, 5, 6, 7].map(|at| job.bytes[at]);
     let attenuation = job.number(12, 4);
-    let wide = |group: &[u128; 4]| group.iter().zip([366, 100, 24, 100]).any(|(x, most)| *x > most);
+    let wide = |group: &[u128; 4]| group.iter().zip([366, 100, 96, 100]).any(|(x, most)| *x > most);
     let unusable = |bits: u64| bits >= 0x7FF0_0000_0000_0000;
     let grounds = [
         (2, kind > 1 || medium > 2 || unit > 2 || zero != 0),
@@ -73,7 +74,8 @@ fn judged(job: &Job, chain: &Chain, factors: &[u64], air: u128) -> (&'static str
     let groups = job.groups();
     let x: u128 = groups.iter().map(|[ef, ed, et, ira]| ef * ed * et * ira).sum();
     let y: u128 = groups.iter().map(|[ef, ed, et, _]| ef * ed * et).sum();
-    let target = u128::from(job.number(8, 4)) * 37 * 8_760 * GRAINS;
+    // ET is in quarter hours, so the bound is four times what it was for hours (R-1 of document 02).
+    let target = 4 * u128::from(job.number(8, 4)) * 37 * 8_760 * GRAINS;
     let bound = if dose { target * job.years() * 10_000_000 } else { target * 100_000_000 };
     let (mut low, mut high) = (0, 0);
     for (i, member) in chain.members.iter().enumerate() {
