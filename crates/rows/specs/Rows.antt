@@ -1,4 +1,5 @@
--- The rows of document 01 that are marked for the check: one list, one computation over the definitions.
+-- The rows of document 01 that are marked for the check, restated in quarter hours (document 02, R-1): one list, one computation over
+-- the definitions.
 use Prim.Native.Nat.{ℕ, _/_}
 use mathlib.Core.Bool.{Bool, true, false, _&&_}
 use mathlib.Core.Path.{_≡_, refl}

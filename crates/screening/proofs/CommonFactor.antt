@@ -1,6 +1,6 @@
 -- A factor above 0 that every weight and B have in common changes nothing: Low, High and B carry it alike, and a comparison or a
 -- quotient of two numbers that carry it is that of the numbers.
-use Prim.Native.Nat.{ℕ, suc, _+_, _*_, _<_, min}
+use Prim.Native.Nat.{ℕ, _+_, _*_, _<_, min}
 use native.Mathlib.Nat.{mul-pos, pos-of-ne-zero, mul-le-mul-left, mul-div-mul-left}
 use native.Mathlib.Omega.{arith}
 use mathlib.Core.Path.{_≡_, refl, ap, ap₂, _∙_}

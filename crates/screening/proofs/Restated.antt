@@ -8,10 +8,10 @@ use mathlib.Core.List.{List}
 use lib.Dec.{ltb}
 use borrow.Author.Tests.{ltb-true, ltb-false, lt-ltb, le-ltb}
 use Rattle.book.specs.Fields.{coefficient}
-use Rattle.screening.specs.Job.{rate, kind, target, exposureOf, bookOf}
-use Rattle.screening.specs.Exposure.{X, Y, exposureOutOfRange}
-use Rattle.screening.specs.Verdict.{Assessment, kindOf, bound, verdictAt, level}
-use Rattle.screening.specs.Screening.{criterionFor, assessmentAt, answerOf}
+use Rattle.screening.specs.Job.{rate, exposureOf, bookOf}
+use Rattle.screening.specs.Exposure.{X, Y, maxQuarterHours, exposureOutOfRange}
+use Rattle.screening.specs.Verdict.{Assessment, bound, verdictAt, level}
+use Rattle.screening.specs.Screening.{criterionFor, criterionOf, assessmentAt, answerOf}
 use Rattle.screening.specs.WholeHours.{HoursExposure, inQuarters, hoursX, hoursY, hoursZ, hoursOutOfRange, hoursBound, hoursAssessment, hoursAssessmentOf}
 use Rattle.screening.specs.Promises.{CommonFactor, Unchanged, WholeHoursPromise}
 use Rattle.screening.specs.declared.exposure.Exposure.{Exposure}
@@ -21,11 +21,11 @@ use Rattle.screening.specs.declared.verdict.Kind.{Kind}
 use Rattle.screening.proofs.CommonFactor.{common-factor}
 use Rattle.screening.proofs.Answers.{verdict-is, level-is, concentration-is}
 
-over-by : (h : ℕ) (t : Bool) → ltb 24 h ≡ t → ltb 96 (4 * h) ≡ t
-over-by h true e = lt-ltb 96 (4 * h) (omega (arith, ltb-true 24 h e))
-over-by h false e = le-ltb 96 (4 * h) (omega (arith, ltb-false 24 h e))
+over-by : (h : ℕ) (t : Bool) → ltb 24 h ≡ t → ltb maxQuarterHours (4 * h) ≡ t
+over-by h true e = lt-ltb maxQuarterHours (4 * h) (omega (arith, ltb-true 24 h e))
+over-by h false e = le-ltb maxQuarterHours (4 * h) (omega (arith, ltb-false 24 h e))
 
-over-same : (h : ℕ) → ltb 96 (4 * h) ≡ ltb 24 h
+over-same : (h : ℕ) → ltb maxQuarterHours (4 * h) ≡ ltb 24 h
 over-same h = over-by h (ltb 24 h) refl
 
 ground : (e : HoursExposure) → exposureOutOfRange (inQuarters e) ≡ hoursOutOfRange e
@@ -63,10 +63,10 @@ module _
     (job : List ℕ) (e : HoursExposure) (figures : Figures) (same : exposureOf job ≡ inQuarters e) (answered : answerOf job .outcome ≡ Outcome.Screened figures)
   where
     abbrev assessed : Exposure → Assessment
-    assessed x = assessmentAt (criterionFor (kindOf (kind job)) x (target job)) (bookOf job) (coefficient (bookOf job)) (rate job)
+    assessed x = assessmentAt (criterionFor (criterionOf job .kind) x (criterionOf job .target)) (bookOf job) (coefficient (bookOf job)) (rate job)
 
     unchanged : Unchanged (hoursAssessmentOf job e) (assessed (inQuarters e))
-    unchanged = judged (kindOf (kind job)) e (target job) (bookOf job) (coefficient (bookOf job)) (rate job)
+    unchanged = judged (criterionOf job .kind) e (criterionOf job .target) (bookOf job) (coefficient (bookOf job)) (rate job)
 
     verdict-restated : figures .verdict ≡ verdictAt (hoursAssessmentOf job e) (figures .concentration)
     verdict-restated =

@@ -88,7 +88,7 @@ pub record WholeHoursPromise : Type 0 where
   pub worker : worker ≡ inQuarters hoursWorker
   -- ground 6 refuses what it refused
   pub ground : (e : HoursExposure) → exposureOutOfRange (inQuarters e) ≡ hoursOutOfRange e
-  -- verdict and level are as they were
+  -- verdict and level are as they were, within the limits or not
   pub judged :
       (kind : Kind) (e : HoursExposure) (target : ℕ) (book : List ℕ) (coefficient : ℕ → ℕ → ℕ) (v : ℕ) →
       Unchanged (hoursAssessment kind e target book coefficient v) (assessmentAt (criterionFor kind (inQuarters e) target) book coefficient v)

@@ -7,9 +7,10 @@ use lib.Dec.{ltb, eqb}
 use Rattle.book.specs.Fields.{members, coefficient}
 use Rattle.balance.specs.Balance.{G}
 use Rattle.balance.specs.Factors.{factorAt}
-use Rattle.screening.specs.Job.{rate, kind, target, bookOf}
-use Rattle.screening.specs.Exposure.{group}
-use Rattle.screening.specs.Verdict.{Assessment, kindOf, weightOf}
+use Rattle.screening.specs.Job.{rate, bookOf}
+use Rattle.screening.specs.Exposure.{maxDays, maxYears, maxBreathing, group}
+use Rattle.screening.specs.Verdict.{Assessment, weightOf}
+use Rattle.screening.specs.Screening.{criterionOf}
 use Rattle.screening.specs.declared.exposure.Group.{Group}
 use Rattle.screening.specs.declared.exposure.Exposure.{Exposure}
 use Rattle.screening.specs.declared.verdict.Criterion.{Criterion}
@@ -59,7 +60,7 @@ hoursWorker = record { child = hoursGroup 0 0 0 0; adult = hoursGroup 250 25 8 6
 
 -- 6. A group has EF over 366, ED over 100, ET over 24 or IRA over 100, or Z is 0.
 abbrev pub hoursGroupOutOfRange : HoursGroup → Bool
-hoursGroupOutOfRange g = ltb 366 (g .days) || ltb 100 (g .years) || ltb 24 (g .hours) || ltb 100 (g .breathing)
+hoursGroupOutOfRange g = ltb maxDays (g .days) || ltb maxYears (g .years) || ltb 24 (g .hours) || ltb maxBreathing (g .breathing)
 
 abbrev pub hoursOutOfRange : HoursExposure → Bool
 hoursOutOfRange e = hoursGroupOutOfRange (e .child) || hoursGroupOutOfRange (e .adult) || eqb (hoursZ e) 0
@@ -82,6 +83,7 @@ hoursAssessment kind e target book coefficient v =
       bound = hoursBound kind (hoursZ e) target;
     }
 
--- Of a job, but for its exposure.
+-- The same of a job whose exposure is this one.
 abbrev pub hoursAssessmentOf : List ℕ → HoursExposure → Assessment
-hoursAssessmentOf job e = hoursAssessment (kindOf (kind job)) e (target job) (bookOf job) (coefficient (bookOf job)) (rate job)
+hoursAssessmentOf job e =
+    hoursAssessment (criterionOf job .kind) e (criterionOf job .target) (bookOf job) (coefficient (bookOf job)) (rate job)

@@ -12,6 +12,11 @@ const MAX_QUARTER_HOURS: u16 = 96;
 
 const MAX_BREATHING: u16 = 100;
 
+// The quarter hours per day of a resident and of a worker.
+const ALL_DAY: u16 = 96;
+
+const SHIFT: u16 = 32;
+
 // A group's days per year EF, years ED, quarter hours per day ET and breathing IRA in m³ per day.
 pub struct Group {
     pub days: u16,
@@ -37,13 +42,13 @@ impl Exposure {
         child: Group {
             days: 350,
             years: 6,
-            quarter_hours: 96,
+            quarter_hours: ALL_DAY,
             breathing: 10,
         },
         adult: Group {
             days: 350,
             years: 20,
-            quarter_hours: 96,
+            quarter_hours: ALL_DAY,
             breathing: 20,
         },
     };
@@ -58,7 +63,7 @@ impl Exposure {
         adult: Group {
             days: 250,
             years: 25,
-            quarter_hours: 32,
+            quarter_hours: SHIFT,
             breathing: 60,
         },
     };
