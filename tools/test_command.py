@@ -10,6 +10,7 @@ import tempfile
 HERE = pathlib.Path(__file__).resolve().parent
 BOOK = HERE / "book.py"
 RADON = HERE.parent / "examples" / "radon.txt"
+REFERENCE = HERE.parent / "docs" / "src" / "reference.py"
 
 
 def run(*words, **more):
@@ -58,16 +59,29 @@ def test_readme(folder):
 
 
 def workroom(folder):
-    """A stay of its own in two lines, and what encode says where its hours are no quarters."""
-    lines, home = "child 0 0 0 0\nadult 250 25 7:45 60", RADON.read_text().splitlines()
-    (at,) = (i for i, line in enumerate(home) if line.startswith("exposure residential"))
-    said = []
-    for group in (lines, lines.replace("7:45", "7.8")):
-        (folder / "cellar.txt").write_text("\n".join(home[:at] + [group] + home[at + 1 :]))
-        said.append(run("encode", "cellar.txt", "cellar.job", cwd=folder))
-    assert [status for status, _, _ in said] == [0, 1]
-    assert (folder / "cellar.job").read_bytes()[44] == 31
-    return [lines, said[1][2]]
+    """A let workroom: its two lines, verdict and level of two shifts, and what encode says of hours that are no quarters."""
+    lines = "child 0 0 0 0\nadult 250 25 7:45 60"
+    home = RADON.read_text().replace("target 100_000 ", "target 5_400_000 ")
+    (named,) = (line for line in home.splitlines() if line.startswith("exposure residential"))
+
+    def encoded(hours):
+        (folder / "cellar.txt").write_text(home.replace(named, lines.replace("7:45", hours)))
+        return run("encode", "cellar.txt", "cellar.job", cwd=folder)
+
+    shown = [lines]
+    for hours, quarters in (("7:45", 31), ("8", 32)):
+        assert encoded(hours)[0] == 0
+        job = (folder / "cellar.job").read_bytes()
+        assert job[44] == quarters
+        shown.append("\n".join(line for line in reported(job).splitlines() if line.startswith(("verdict", "level"))))
+    status, _, said = encoded("7.8")
+    assert status == 1
+    return shown + [said]
+
+
+def reported(job):
+    """What the reference says of a job, as screen does."""
+    return subprocess.run([sys.executable, REFERENCE], input=job, capture_output=True, check=True).stdout.decode()
 
 
 @folder_test
