@@ -4,7 +4,7 @@ use Prim.Native.Nat.{ℕ, suc, _-_, _*_, _<_}
 use native.Mathlib.Omega.{arith}
 use mathlib.Core.Path.{_≡_, refl, ap₂, _∙_}
 use Rattle.screening.specs.Verdict.{Assessment}
-use Rattle.screening.specs.Promises.{CommonFactor}
+use Rattle.screening.specs.CommonFactor.{CommonFactor}
 use Rattle.screening.specs.WorkingLevels.{alphaWeight, alphaSum}
 use Rattle.screening.specs.Private.Tabled.{judgedOn}
 use Rattle.book.proofs.Sums.{sum-same}

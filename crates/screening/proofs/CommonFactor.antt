@@ -11,7 +11,7 @@ use Rattle.book.specs.Sums.{sumBelow}
 use Rattle.book.proofs.Sums.{sum-same, sum-scale}
 use Rattle.balance.specs.Balance.{G}
 use Rattle.screening.specs.Verdict.{Assessment, low, high, verdictOf, cappedQuotient, maxLevel, level}
-use Rattle.screening.specs.Promises.{CommonFactor, Unchanged}
+use Rattle.screening.specs.CommonFactor.{CommonFactor, Unchanged}
 
 module _ (k : ℕ) (pos : 0 < k) where
   leb-by : (x y : ℕ) (t : Bool) → leb x y ≡ t → leb (k * x) (k * y) ≡ t

@@ -12,8 +12,8 @@ use Rattle.screening.specs.Job.{rate, exposureOf, bookOf}
 use Rattle.screening.specs.Exposure.{X, Y, maxQuarterHours, exposureOutOfRange}
 use Rattle.screening.specs.Verdict.{Assessment, bound, verdictAt, level}
 use Rattle.screening.specs.Screening.{criterionFor, criterionOf, assessmentAt, answerOf}
-use Rattle.screening.specs.WholeHours.{HoursExposure, inQuarters, hoursX, hoursY, hoursZ, hoursOutOfRange, hoursBound, hoursAssessment, hoursAssessmentOf}
-use Rattle.screening.specs.Promises.{CommonFactor, Unchanged, WholeHoursPromise}
+use Rattle.screening.specs.WholeHours.{HoursExposure, inQuarters, hoursX, hoursY, hoursZ, hoursOutOfRange, hoursBound, hoursAssessment, hoursAssessmentOf, WholeHoursPromise}
+use Rattle.screening.specs.CommonFactor.{CommonFactor, Unchanged}
 use Rattle.screening.specs.declared.exposure.Exposure.{Exposure}
 use Rattle.screening.specs.declared.job.Figures.{Figures}
 use Rattle.screening.specs.declared.job.Outcome.{Outcome}

@@ -4,6 +4,7 @@ pub mod JobGrounds
 pub mod Verdict
 pub mod WorkingLevels
 pub mod Screening
+pub mod CommonFactor
 pub mod WholeHours
 pub mod Promises
 pub mod Private

@@ -17,19 +17,19 @@ use Rattle.balance.specs.Promises.{FactorPromises}
 use Rattle.reading.specs.Reading.{figure, unusable, whole, maxConcentration, readingUnusable, concentrationTooHigh, wholeAnswer, wholeChecked, intakeChecked}
 use Rattle.reading.specs.Promises.{ReadingPromise}
 use Rattle.reading.specs.declared.amounts.Amount.{Amount}
-use Rattle.screening.specs.Job.{rate, rateLength, readingOf, forReading, exposureOf, intakeOf, bookOf}
-use Rattle.screening.specs.Exposure.{residential, worker, exposureOutOfRange, exposureAnswer, exposureChecked}
+use Rattle.screening.specs.Job.{rate, rateLength, readingOf, forReading, intakeOf, bookOf}
+use Rattle.screening.specs.Exposure.{exposureOutOfRange, exposureAnswer, exposureChecked}
 use Rattle.screening.specs.Verdict.{Assessment, weightOf, boundOf, gap, verdictAt, badness, maxLevel, level}
 use Rattle.book.specs.Sums.{sumBelow}
 use Rattle.screening.specs.WorkingLevels.{equilibrium}
-use Rattle.screening.specs.Screening.{criterionFor, criterionOf, assessmentAt, alphaAt, answerOf}
-use Rattle.screening.specs.WholeHours.{HoursExposure, inQuarters, hoursResidential, hoursWorker, hoursOutOfRange, hoursAssessment, hoursAssessmentOf}
+use Rattle.screening.specs.Screening.{criterionOf, assessmentAt, alphaAt, answerOf}
+use Rattle.screening.specs.CommonFactor.{CommonFactor, Unchanged}
+use Rattle.screening.specs.WholeHours.{WholeHoursPromise}
 use Rattle.screening.specs.declared.exposure.Exposure.{Exposure}
 use Rattle.screening.specs.declared.job.Answer.{Answer}
 use Rattle.screening.specs.declared.job.Figures.{Figures}
 use Rattle.screening.specs.declared.job.Outcome.{Outcome}
 use Rattle.screening.specs.declared.verdict.Criterion.{Criterion}
-use Rattle.screening.specs.declared.verdict.Kind.{Kind}
 use Rattle.screening.specs.declared.verdict.Verdict.{Verdict}
 use Rattle.screening.specs.declared.verdict.Verdict.the-variants.{Below, Close, Above}
 
@@ -69,34 +69,6 @@ AnswerPromise job answer =
     (figures : Figures) → answer .outcome ≡ Outcome.Screened figures →
     VerdictPromise (criterionOf job) (bookOf job) (coefficient (bookOf job)) (rate job) (figures .concentration) (figures .verdict)
 
--- Two assessments on the same factors, in which every weight and B are k times those of the other.
-pub record CommonFactor (k : ℕ) (a b : Assessment) : Type 0 where
-  pub count : b .count ≡ a .count
-  pub weight : (i : ℕ) → i < a .count → b .weight i ≡ k * a .weight i
-  pub factor : (i : ℕ) → i < a .count → b .factor i ≡ a .factor i
-  pub bound : b .bound ≡ k * a .bound
-
--- The verdict at every concentration, and the level, are as they were.
-pub record Unchanged (a b : Assessment) : Type 0 where
-  pub verdict : (C : ℕ) → verdictAt b C ≡ verdictAt a C
-  pub level : level b ≡ level a
-
--- Document 02, R-1: a room whose exposure is in whole hours, restated in quarter hours, comes out as document 01's own formulas have it.
-pub record WholeHoursPromise : Type 0 where
-  -- the defaults are document 01's
-  pub residential : residential ≡ inQuarters hoursResidential
-  pub worker : worker ≡ inQuarters hoursWorker
-  -- ground 6 refuses what it refused
-  pub ground : (e : HoursExposure) → exposureOutOfRange (inQuarters e) ≡ hoursOutOfRange e
-  -- verdict and level are as they were, within the limits or not
-  pub judged :
-      (kind : Kind) (e : HoursExposure) (target : ℕ) (book : List ℕ) (coefficient : ℕ → ℕ → ℕ) (v : ℕ) →
-      Unchanged (hoursAssessment kind e target book coefficient v) (assessmentAt (criterionFor kind (inQuarters e) target) book coefficient v)
-  -- and so they stand in the answer to the job
-  pub answer :
-      (job : List ℕ) (e : HoursExposure) (figures : Figures) → exposureOf job ≡ inQuarters e → answerOf job .outcome ≡ Outcome.Screened figures →
-      (figures .verdict ≡ verdictAt (hoursAssessmentOf job e) (figures .concentration)) × (figures .level ≡ level (hoursAssessmentOf job e))
-
 pub record Demand3 : Type 0 where
   pub factors : FactorPromises
   -- over the last member's denominator each numerator is the same fraction as over the member's own
@@ -124,8 +96,9 @@ pub record Demand3 : Type 0 where
 
 pub record Promises : Type 0 where
   pub demand3 : Demand3
-  -- a factor above 0 that every weight and B have in common leaves verdict and level as they were
+  -- every weight and B times the same k above 0 leave verdict and level as they were
   pub common-factor : (k : ℕ) (a b : Assessment) → 0 < k → CommonFactor k a b → Unchanged a b
+  -- a room in whole hours comes out as it did (document 02, R-1)
   pub whole-hours : WholeHoursPromise
   -- a number is the smallest that is not below the exact value
   pub reading : (amount : Amount) → ReadingPromise amount

@@ -1,18 +1,22 @@
 -- An exposure in whole hours, as document 01 had it before document 02's R-1: its limits, its defaults, its X, Y, Z and B.
--- No room is judged by these any more. They say what "each verdict and level must come out unchanged" means (`WholeHoursPromise`).
+-- No room is judged by these any more. They say what "each verdict and level must come out unchanged" means, at the end.
 use Prim.Native.Nat.{ℕ, _+_, _*_, _^_}
+use mathlib.Core.Path.{_≡_}
 use mathlib.Core.Bool.{Bool, _||_}
 use mathlib.Core.List.{List}
 use lib.Dec.{ltb, eqb}
 use Rattle.book.specs.Fields.{members, coefficient}
 use Rattle.balance.specs.Balance.{G}
 use Rattle.balance.specs.Factors.{factorAt}
-use Rattle.screening.specs.Job.{rate, bookOf}
-use Rattle.screening.specs.Exposure.{maxDays, maxYears, maxBreathing, group}
-use Rattle.screening.specs.Verdict.{Assessment, weightOf}
-use Rattle.screening.specs.Screening.{criterionOf}
+use Rattle.screening.specs.Job.{rate, exposureOf, bookOf}
+use Rattle.screening.specs.Exposure.{maxDays, maxYears, maxBreathing, group, residential, worker, exposureOutOfRange}
+use Rattle.screening.specs.Verdict.{Assessment, weightOf, verdictAt, level}
+use Rattle.screening.specs.Screening.{criterionFor, criterionOf, assessmentAt, answerOf}
+use Rattle.screening.specs.CommonFactor.{Unchanged}
 use Rattle.screening.specs.declared.exposure.Group.{Group}
 use Rattle.screening.specs.declared.exposure.Exposure.{Exposure}
+use Rattle.screening.specs.declared.job.Figures.{Figures}
+use Rattle.screening.specs.declared.job.Outcome.{Outcome}
 use Rattle.screening.specs.declared.verdict.Criterion.{Criterion}
 use Rattle.screening.specs.declared.verdict.Kind.{Kind}
 
@@ -87,3 +91,19 @@ hoursAssessment kind e target book coefficient v =
 abbrev pub hoursAssessmentOf : List ℕ → HoursExposure → Assessment
 hoursAssessmentOf job e =
     hoursAssessment (criterionOf job .kind) e (criterionOf job .target) (bookOf job) (coefficient (bookOf job)) (rate job)
+
+-- A room whose exposure is in whole hours, restated in quarter hours, comes out as document 01's own formulas have it.
+pub record WholeHoursPromise : Type 0 where
+  -- the defaults are document 01's
+  pub residential : residential ≡ inQuarters hoursResidential
+  pub worker : worker ≡ inQuarters hoursWorker
+  -- ground 6 refuses what it refused
+  pub ground : (e : HoursExposure) → exposureOutOfRange (inQuarters e) ≡ hoursOutOfRange e
+  -- verdict and level are as they were, within the limits or not
+  pub judged :
+      (kind : Kind) (e : HoursExposure) (target : ℕ) (book : List ℕ) (coefficient : ℕ → ℕ → ℕ) (v : ℕ) →
+      Unchanged (hoursAssessment kind e target book coefficient v) (assessmentAt (criterionFor kind (inQuarters e) target) book coefficient v)
+  -- and so they stand in the answer to the job
+  pub answer :
+      (job : List ℕ) (e : HoursExposure) (figures : Figures) → exposureOf job ≡ inQuarters e → answerOf job .outcome ≡ Outcome.Screened figures →
+      (figures .verdict ≡ verdictAt (hoursAssessmentOf job e) (figures .concentration)) × (figures .level ≡ level (hoursAssessmentOf job e))
