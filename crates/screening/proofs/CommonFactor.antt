@@ -26,7 +26,7 @@ module _ (k : ℕ) (pos : 0 < k) where
   zero-by x false e = ne-eqb (k * x) 0 (λ none. omega (arith, none, mul-pos pos (pos-of-ne-zero (eqb-false x 0 e))))
 
   verdict-same : (L H B : ℕ) → verdictOf (k * L) (k * H) (k * B) ≡ verdictOf L H B
-  verdict-same L H B = rw (leb-same H B, leb-same L B)
+  verdict-same L H B = simp leb-same
 
   quotient-same : (cap x y : ℕ) → cappedQuotient cap (k * x) (k * y) ≡ cappedQuotient cap x y
   quotient-same cap x y = rw (zero-by y (eqb y 0) refl, mul-div-mul-left x y pos)
@@ -51,6 +51,10 @@ module _ (k : ℕ) (pos : 0 < k) where
     unfolding level
     common-factor =
         record {
-          verdict = λ C. rw (low-carries C, high-carries C, common .bound) (verdict-same (low a C) (high a C) (a .bound));
+          verdict =
+              λ C.
+              ap₂ (λ L H. verdictOf L H (b .bound)) (low-carries C) (high-carries C)
+              ∙ ap (verdictOf (k * low a C) (k * high a C)) (common .bound)
+              ∙ verdict-same (low a C) (high a C) (a .bound);
           level = rw (high-carries 1, common .bound) (quotient-same maxLevel (a .bound) (high a 1));
         }
