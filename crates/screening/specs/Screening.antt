@@ -23,6 +23,7 @@ use Rattle.screening.specs.declared.verdict.Kind.{Kind}
 abbrev pub criterionFor : Kind → Exposure → ℕ → Criterion
 criterionFor kind e target = record { kind = kind; x = X e; y = Y e; z = Z e; target = target }
 
+-- And a job's room.
 abbrev pub criterionOf : List ℕ → Criterion
 criterionOf job = criterionFor (kindOf (kind job)) (exposureOf job) (target job)
 

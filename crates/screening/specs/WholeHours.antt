@@ -74,7 +74,7 @@ abbrev pub hoursBound : Kind → ℕ → ℕ → ℕ
 hoursBound Kind.Risk Z target = target * 37 * 8760 * 10 ^ 8 * G
 hoursBound Kind.Dose Z target = target * Z * 37 * 8760 * 10 ^ 7 * G
 
--- What a room in whole hours was judged by, and on. q is the formula that stands.
+-- What a room in whole hours was judged by, and what its verdict was reached on. The formula of q is the one that stands.
 abbrev pub hoursCriterion : Kind → HoursExposure → ℕ → Criterion
 hoursCriterion kind e target = record { kind = kind; x = hoursX e; y = hoursY e; z = hoursZ e; target = target }
 
