@@ -20,7 +20,7 @@ use Rattle.book.specs.Tests.{outside}
 use Rattle.book.specs.BookGrounds.{bookTooShort, countOutOfRange, bookLengthWrong, bookGrounds}
 use Rattle.balance.specs.Rates.{maxRate}
 use Rattle.screening.specs.Job.{rate, target, exposureOf, jobLength, bookOf}
-use Rattle.screening.specs.Exposure.{exposureOutOfRange}
+use Rattle.exposure.specs.Exposure.{exposureOutOfRange}
 use Rattle.screening.specs.JobGrounds.{codeUnknown, maxTarget, attenuationOutOfRange, checkedJob}
 use Rattle.screening.specs.Screening.{answerFor}
 use Rattle.screening.specs.Private.Checks.{fieldGrounds, readingGrounds}

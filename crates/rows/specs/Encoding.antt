@@ -2,8 +2,8 @@
 use Prim.Native.Nat.{ℕ, zero, suc, _/_, _%_}
 use mathlib.Core.List.{List, [], _∷_, _++_}
 use lib.ListN.{length, replicate}
-use Rattle.screening.specs.declared.exposure.Group.{Group}
-use Rattle.screening.specs.declared.exposure.Exposure.{Exposure}
+use Rattle.exposure.specs.declared.groups.Group.{Group}
+use Rattle.exposure.specs.declared.groups.Exposure.{Exposure}
 
 -- n in so many bytes, little-endian.
 abbrev pub littleEndian : ℕ → ℕ → List ℕ

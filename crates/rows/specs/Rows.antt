@@ -16,13 +16,14 @@ use Rattle.balance.specs.Factors.{factorAnswer, factorList, answerNumber}
 use Rattle.reading.specs.Reading.{amountOf, mediumOf, whole, wholeAnswer, readingUnusable, concentrationTooHigh, intakeAnswer}
 use Rattle.reading.specs.declared.amounts.Intake.{Intake}
 use Rattle.reading.specs.declared.amounts.Whole.{Whole}
-use Rattle.screening.specs.Exposure.{X, Y, residential, worker, exposureOutOfRange}
+use Rattle.exposure.specs.Totals.{X, Y}
+use Rattle.exposure.specs.Exposure.{residential, worker, exposureOutOfRange}
 use Rattle.screening.specs.JobGrounds.{codeUnknown, attenuationOutOfRange}
 use Rattle.screening.specs.Verdict.{badness, level}
 use Rattle.book.specs.Sums.{sumBelow}
 use Rattle.screening.specs.WorkingLevels.{microLevels, workingLevels}
 use Rattle.screening.specs.Screening.{figuresAt, answerOf}
-use Rattle.screening.specs.declared.exposure.Exposure.{Exposure}
+use Rattle.exposure.specs.declared.groups.Exposure.{Exposure}
 use Rattle.screening.specs.declared.job.Outcome.{Outcome}
 use Rattle.screening.specs.declared.verdict.Verdict.{Verdict}
 use Rattle.screening.specs.declared.verdict.Verdict.the-variants.{Below, Close, Above}

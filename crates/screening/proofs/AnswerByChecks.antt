@@ -19,7 +19,7 @@ use Rattle.screening.specs.Private.Tabled.{CriterionInRange}
 use Rattle.screening.specs.Private.Checks.{fieldGrounds, concentrationIn, Screenable}
 use Rattle.screening.specs.declared.job.Answer.{Answer}
 use Rattle.screening.specs.declared.verdict.Criterion.{Criterion}
-use Rattle.screening.proofs.WithinLimits.{exposure-within, years-within}
+use Rattle.exposure.proofs.WithinLimits.{exposure-within, years-within}
 use Rattle.screening.proofs.JobChecks.{refused-by-fields, FieldsPass, JobPasses, job-passes}
 
 -- The part of a job after its own bytes, as the code lends it: as many bytes as are left are all that are left.

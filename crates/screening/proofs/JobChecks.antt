@@ -17,7 +17,7 @@ use Rattle.reading.specs.Reading.{mediumOf, readingUnusable, concentrationTooHi
 use Rattle.reading.specs.declared.amounts.Intake.{Intake}
 use Rattle.reading.proofs.PartsJoined.{concentration-within}
 use Rattle.screening.specs.Job.{rate, medium, unit, target, attenuation, readingOf, forReading, concentrationOf, intakeOf, exposureOf, jobLength}
-use Rattle.screening.specs.Exposure.{exposureOutOfRange}
+use Rattle.exposure.specs.Exposure.{exposureOutOfRange}
 use Rattle.screening.specs.JobGrounds.{codeUnknown, maxTarget, attenuationOutOfRange, checkedJob}
 use Rattle.screening.specs.Private.Checks.{fieldGrounds, readingGrounds, concentrationIn}
 

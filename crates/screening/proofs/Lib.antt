@@ -1,7 +1,5 @@
 -- The laws behind the contracts, in the order in which they build on each other.
 
--- The exposure.
-pub mod WithinLimits
 -- The verdict, the level and the equilibrium factor against the exact quantity.
 pub mod Verdicts
 pub mod Sandwich

@@ -1,20 +1,18 @@
--- Everything that is promised. Demand 3's half of the factors is proved in balance, the reading's promise in reading, and the rest in OneDenominator,
--- Soundness, Falling, Level, CommonFactor, Answers, Restated and JobChecks.
+-- Everything that is promised. Demand 3's half of the factors is proved in balance, the reading's promise in reading, the exposure's in exposure, and the
+-- rest in OneDenominator, Soundness, Falling, Level, CommonFactor, Answers, Restated and JobChecks.
 use Prim.Native.Nat.{ℕ}
 use mathlib.Core.Path.{_≡_, refl}
 use mathlib.Core.Bool.{Bool, true, false, cond}
 use mathlib.Core.List.{[], _∷_}
 use lib.Dec.{ltb}
 use Rattle.refusals.specs.Grounds.{ground, firstMet}
-use Rattle.refusals.specs.declared.Refusal.the-variants.{ExposureOutOfRange, ReadingUnusable, ConcentrationTooHigh}
+use Rattle.refusals.specs.declared.Refusal.the-variants.{ReadingUnusable, ConcentrationTooHigh}
 use Rattle.reading.specs.Reading.{figure, unusable, whole, maxConcentration, wholeChecked}
 use Rattle.reading.specs.declared.amounts.Whole.{Whole}
 use Rattle.reading.proofs.Promised.{reading-promise}
 use Rattle.balance.proofs.Promised.{factor-promises}
 use Rattle.screening.specs.Promises.{Demand3, Promises}
-use Rattle.screening.specs.Exposure.{exposureOutOfRange, exposureChecked}
-use Rattle.screening.specs.declared.exposure.Exposure.{Exposure}
-use Rattle.screening.specs.declared.exposure.ExposureAnswer.{ExposureAnswer}
+use Rattle.exposure.proofs.Promised.{exposure-promises}
 use Rattle.screening.proofs.OneDenominator.{one-denominator}
 use Rattle.screening.proofs.Soundness.{verdict-promise}
 use Rattle.screening.proofs.Falling.{no-worse, equilibrium-at-most-one}
@@ -46,20 +44,14 @@ whole-grounds true high n = refl
 whole-grounds false true n = refl
 whole-grounds false false n = refl
 
-exposure-ground :
-    (e : Exposure) (out : Bool)
-    → exposureChecked (cond out ExposureAnswer.OutOfRange (ExposureAnswer.Within e)) ≡ firstMet (ground ExposureOutOfRange out ∷ [])
-exposure-ground e true = refl
-exposure-ground e false = refl
-
 pub promises : Promises
 promises =
     record {
       demand3 = demand-3;
       common-factor = λ k a b pos common. common-factor k pos a b common;
+      exposure = exposure-promises;
       whole-hours = whole-hours;
       reading = reading-promise;
       amount-grounds = λ amount. whole-grounds (unusable (figure amount)) (ltb maxConcentration (whole amount)) (whole amount);
       reading-grounds = reading-checked;
-      exposure-ground = λ e. exposure-ground e (exposureOutOfRange e);
     }

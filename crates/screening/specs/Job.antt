@@ -8,8 +8,8 @@ use Rattle.reading.specs.Reading.{mediumOf, concentration, intakeAnswer}
 use Rattle.reading.specs.declared.amounts.Intake.{Intake}
 use Rattle.reading.specs.declared.amounts.Medium.{Medium}
 use Rattle.reading.specs.declared.amounts.Reading.{Reading}
-use Rattle.screening.specs.declared.exposure.Group.{Group}
-use Rattle.screening.specs.declared.exposure.Exposure.{Exposure}
+use Rattle.exposure.specs.declared.groups.Group.{Group}
+use Rattle.exposure.specs.declared.groups.Exposure.{Exposure}
 
 -- The rate v stands first, in four bytes; it is in hundredths of an air change per hour.
 abbrev pub rateLength : ℕ

@@ -11,7 +11,7 @@ use Rattle.book.specs.BookGrounds.{bookGrounds}
 use Rattle.balance.specs.Rates.{maxRate}
 use Rattle.reading.specs.Reading.{readingUnusable, concentrationTooHigh, wholeAttenuation}
 use Rattle.screening.specs.Job.{rate, kind, medium, unit, zeroByte, target, attenuation, readingOf, forReading, exposureOf, jobLength}
-use Rattle.screening.specs.Exposure.{exposureOutOfRange}
+use Rattle.exposure.specs.Exposure.{exposureOutOfRange}
 
 -- 2. Kind, medium or unit is not a listed value, or the job's zero byte isn't zero.
 abbrev pub lastKind : ℕ

@@ -1,5 +1,4 @@
 pub mod Job
-pub mod Exposure
 pub mod JobGrounds
 pub mod Verdict
 pub mod WorkingLevels

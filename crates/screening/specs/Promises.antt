@@ -1,12 +1,12 @@
 -- What is promised: demand 3, whole, for every rate from 0 to 100,000, every chain that the checks accept, and every job over it;
--- and what the answers of the reading and of the exposure's constructor say.
+-- and what the answers of the reading say.
 use Prim.Native.Nat.{ℕ, _+_, _*_, _-_, _≤_, _<_}
 use mathlib.Core.Path.{_≡_}
 use mathlib.Core.List.{List, [], _∷_}
 use lib.Dec.{ltb}
 use lib.ListN.{getD, drop}
 use Rattle.refusals.specs.Grounds.{ground, firstMet}
-use Rattle.refusals.specs.declared.Refusal.the-variants.{ExposureOutOfRange, ReadingUnusable, ConcentrationTooHigh}
+use Rattle.refusals.specs.declared.Refusal.the-variants.{ReadingUnusable, ConcentrationTooHigh}
 use Rattle.book.specs.Fields.{members, scaleOf, coefficient}
 use Rattle.book.specs.BookGrounds.{Accepted}
 use Rattle.balance.specs.Rates.{maxRate, ratesAt}
@@ -18,14 +18,13 @@ use Rattle.reading.specs.Reading.{figure, unusable, whole, maxConcentration, re
 use Rattle.reading.specs.Promises.{ReadingPromise}
 use Rattle.reading.specs.declared.amounts.Amount.{Amount}
 use Rattle.screening.specs.Job.{rate, rateLength, readingOf, forReading, intakeOf, bookOf}
-use Rattle.screening.specs.Exposure.{exposureOutOfRange, exposureAnswer, exposureChecked}
+use Rattle.exposure.specs.Promises.{ExposurePromises}
 use Rattle.screening.specs.Verdict.{Assessment, weightOf, boundOf, gap, verdictAt, badness, maxLevel, level}
 use Rattle.book.specs.Sums.{sumBelow}
 use Rattle.screening.specs.WorkingLevels.{equilibrium}
 use Rattle.screening.specs.Screening.{criterionOf, assessmentAt, alphaAt, answerOf}
 use Rattle.screening.specs.CommonFactor.{CommonFactor, Unchanged}
 use Rattle.screening.specs.WholeHours.{WholeHoursPromise}
-use Rattle.screening.specs.declared.exposure.Exposure.{Exposure}
 use Rattle.screening.specs.declared.job.Answer.{Answer}
 use Rattle.screening.specs.declared.job.Figures.{Figures}
 use Rattle.screening.specs.declared.job.Outcome.{Outcome}
@@ -98,11 +97,12 @@ pub record Promises : Type 0 where
   pub demand3 : Demand3
   -- every weight and B times the same k above 0 leave verdict and level as they were
   pub common-factor : (k : ℕ) (a b : Assessment) → 0 < k → CommonFactor k a b → Unchanged a b
-  -- a room in whole hours comes out as it did (document 02, R-1)
+  -- the exposure's own, and a room in whole hours comes out as it did (document 02, R-1)
+  pub exposure : ExposurePromises
   pub whole-hours : WholeHoursPromise
   -- a number is the smallest that is not below the exact value
   pub reading : (amount : Amount) → ReadingPromise amount
-  -- and the grounds are those of the list: 7 and 8 of one amount and of a job's reading, 6 of an exposure
+  -- and the grounds are those of the list, 7 and 8, of one amount and of a job's reading
   pub amount-grounds :
       (amount : Amount) →
       wholeChecked (wholeAnswer amount)
@@ -111,4 +111,3 @@ pub record Promises : Type 0 where
       (job : List ℕ) →
       intakeChecked (intakeOf job)
       ≡ firstMet (ground ReadingUnusable (readingUnusable (readingOf job)) ∷ ground ConcentrationTooHigh (forReading concentrationTooHigh job) ∷ [])
-  pub exposure-ground : (e : Exposure) → exposureChecked (exposureAnswer e) ≡ firstMet (ground ExposureOutOfRange (exposureOutOfRange e) ∷ [])

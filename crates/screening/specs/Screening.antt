@@ -8,11 +8,11 @@ use Rattle.book.specs.Limits.{maxMembers}
 use Rattle.book.specs.Fields.{members, workingLevelDivisor, coefficient}
 use Rattle.balance.specs.Factors.{factorAt, factorList}
 use Rattle.screening.specs.Job.{rate, kind, target, exposureOf, concentrationOf, bookOf}
-use Rattle.screening.specs.Exposure.{X, Y, Z}
+use Rattle.exposure.specs.Totals.{X, Y, Z}
 use Rattle.screening.specs.JobGrounds.{checkedJob}
 use Rattle.screening.specs.Verdict.{Assessment, kindOf, weightOf, boundOf, verdictAt, level}
 use Rattle.screening.specs.WorkingLevels.{alphaSum, workingLevels}
-use Rattle.screening.specs.declared.exposure.Exposure.{Exposure}
+use Rattle.exposure.specs.declared.groups.Exposure.{Exposure}
 use Rattle.screening.specs.declared.job.Answer.{Answer}
 use Rattle.screening.specs.declared.job.Figures.{Figures}
 use Rattle.screening.specs.declared.job.Outcome.{Outcome}

@@ -1,5 +1,4 @@
 // The checks of a job's own fields, grounds 1 to 8.
-use crate::exposure::out_of_range;
 use crate::fields::JOB_LENGTH;
 use crate::fields::attenuation_of;
 use crate::fields::exposure_of;
@@ -13,6 +12,7 @@ use crate::fields::target_of;
 use crate::fields::unit_code;
 use crate::fields::zero_byte;
 use balance::MAX_RATE;
+use exposure::out_of_range;
 use reading::Intake;
 use reading::WHOLE_ATTENUATION;
 use reading::intake;

@@ -1,15 +1,15 @@
 // The fields of a job; past the end a byte reads as 0.
-use crate::exposure::Exposure;
-use crate::exposure::Group;
-use crate::exposure::x;
-use crate::exposure::y;
-use crate::exposure::z;
 use crate::verdict::Criterion;
 use crate::verdict::Kind;
 use book::u8_at;
 use book::u16_at;
 use book::u32_at;
 use book::u64_at;
+use exposure::Exposure;
+use exposure::Group;
+use exposure::x;
+use exposure::y;
+use exposure::z;
 use reading::Medium;
 use reading::Reading;
 use reading::bits_unusable;
@@ -20,7 +20,7 @@ ghost use mathlib.Core.Bool.{false};
 ghost use Prim.Native.Nat.{_≤_};
 ghost use Rattle.reading.specs.Reading.{mediumOf, readingUnusable};
 ghost use Rattle.screening.specs.Job.{rate, kind, medium, unit, zeroByte, target, attenuation, readingOf, groupAt, exposureOf};
-ghost use Rattle.screening.specs.Exposure.{exposureOutOfRange};
+ghost use Rattle.exposure.specs.Exposure.{exposureOutOfRange};
 ghost use Rattle.screening.specs.Verdict.{kindOf};
 ghost use Rattle.screening.specs.Screening.{criterionOf};
 

@@ -1,6 +1,5 @@
 // Screening of a room: from the bytes of a job and its chain book to the verdict on risk or yearly dose.
 mod check;
-mod exposure;
 mod fields;
 mod job;
 mod screened;
@@ -15,9 +14,6 @@ use check::check_fields;
 use check::concentration_in;
 use check::intake_checked;
 use check::intake_of;
-pub use exposure::Exposure;
-pub use exposure::ExposureAnswer;
-pub use exposure::Group;
 pub use fields::JOB_LENGTH;
 use fields::criterion_of;
 use fields::rate_of;

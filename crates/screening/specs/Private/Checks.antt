@@ -12,7 +12,7 @@ use Rattle.book.specs.declared.table.ChainTable.{ChainTable}
 use Rattle.balance.specs.Rates.{maxRate}
 use Rattle.reading.specs.Reading.{readingUnusable, concentrationTooHigh, maxConcentration}
 use Rattle.screening.specs.Job.{rate, target, readingOf, forReading, exposureOf, jobLength}
-use Rattle.screening.specs.Exposure.{exposureOutOfRange}
+use Rattle.exposure.specs.Exposure.{exposureOutOfRange}
 use Rattle.screening.specs.JobGrounds.{codeUnknown, maxTarget, attenuationOutOfRange}
 use Rattle.screening.specs.Private.Tabled.{CriterionInRange}
 use Rattle.reading.specs.declared.amounts.Intake.{Intake}

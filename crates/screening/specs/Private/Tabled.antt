@@ -6,7 +6,7 @@ use Rattle.book.specs.Limits.{maxMembers}
 use Rattle.book.specs.Fields.{coefficientCount}
 use Rattle.balance.specs.Balance.{G}
 use Rattle.reading.specs.Reading.{maxConcentration}
-use Rattle.screening.specs.Exposure.{maxYears}
+use Rattle.exposure.specs.Exposure.{maxYears}
 use Rattle.screening.specs.JobGrounds.{maxTarget}
 use Rattle.screening.specs.Verdict.{Assessment, weightOf, boundOf, verdictAt, level}
 use Rattle.screening.specs.declared.verdict.Criterion.{Criterion}

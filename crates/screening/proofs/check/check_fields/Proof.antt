@@ -5,7 +5,7 @@ use lib.Dec.{ltb}
 use lib.ListN.{length}
 use Rattle.balance.specs.Rates.{maxRate}
 use Rattle.screening.specs.Job.{jobLength}
-use Rattle.screening.specs.Exposure.{exposureOutOfRange}
+use Rattle.exposure.specs.Exposure.{exposureOutOfRange}
 use Rattle.screening.specs.JobGrounds.{maxTarget}
 use Rattle.refusals.specs.declared.Refusal.{Refusal}
 use Rattle.refusals.proofs.FirstMet.{choice}

@@ -2,7 +2,8 @@
 use borrow.Author.Needs.{needs}
 use mathlib.Core.Path.{_≡_, ap, _∙_}
 use mathlib.Core.Bool.{false}
-use Rattle.screening.specs.Exposure.{X, Y, Z, exposureOutOfRange}
+use Rattle.exposure.specs.Totals.{X, Y, Z}
+use Rattle.exposure.specs.Exposure.{exposureOutOfRange}
 use Rattle.screening.proofs.fields.criterion_of.Statement.{statement}
 use Rattle.screening.proofs.fields.criterion_of.Tie as tie
 

@@ -1,9 +1,9 @@
--- `screening::exposure::group_quarter_hours` meets its contract: within the limits each product is at most the limits' own.
+-- `exposure::totals::group_quarter_hours` meets its contract: within the limits each product is at most the limits' own.
 use native.Mathlib.Omega.{arith}
 use borrow.Author.Needs.{needs}
-use Rattle.screening.proofs.WithinLimits.{GroupWithin, group-within, group-years, group-quarters}
-use Rattle.screening.proofs.exposure.group_quarter_hours.Statement.{statement}
-use Rattle.screening.proofs.exposure.group_quarter_hours.Tie as tie
+use Rattle.exposure.proofs.WithinLimits.{GroupWithin, group-within, group-years, group-quarters}
+use Rattle.exposure.proofs.totals.group_quarter_hours.Statement.{statement}
+use Rattle.exposure.proofs.totals.group_quarter_hours.Tie as tie
 
 limits : (c : tie.Start) → GroupWithin (c .args .group)
 limits c = group-within _ (c .pre)

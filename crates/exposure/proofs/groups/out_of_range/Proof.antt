@@ -1,8 +1,8 @@
--- `screening::exposure::out_of_range` meets its contract: the test is the definition's disjunction.
-use Rattle.screening.specs.Exposure.{exposureOutOfRange}
+-- `exposure::groups::out_of_range` meets its contract: the test is the definition's disjunction.
+use Rattle.exposure.specs.Exposure.{exposureOutOfRange}
 use borrow.Author.Needs.{needs}
-use Rattle.screening.proofs.exposure.out_of_range.Statement.{statement}
-use Rattle.screening.proofs.exposure.out_of_range.Tie as tie
+use Rattle.exposure.proofs.groups.out_of_range.Statement.{statement}
+use Rattle.exposure.proofs.groups.out_of_range.Tie as tie
 
 returns : tie.Need-returns
 unfolding exposureOutOfRange

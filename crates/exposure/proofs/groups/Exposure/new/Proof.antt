@@ -1,8 +1,8 @@
--- `screening::exposure::Exposure::new` meets its contract: the test is the definition's.
+-- `exposure::groups::Exposure::new` meets its contract: the test is the definition's.
 use mathlib.Core.Path.{sym, _∙_}
 use borrow.Author.Needs.{needs}
-use Rattle.screening.proofs.exposure.Exposure.new.Statement.{statement}
-use Rattle.screening.proofs.exposure.Exposure.new.Tie as tie
+use Rattle.exposure.proofs.groups.Exposure.new.Statement.{statement}
+use Rattle.exposure.proofs.groups.Exposure.new.Tie as tie
 
 returns : tie.Need-returns
 returns c = rw (sym (c .before .out-of-range .ensures) ∙ c .if1 .taken)

@@ -1,8 +1,6 @@
-// Who is in the room, and for how long.
+// Who is in the room, and for how long: the two groups, their limits and the defaults.
 ghost use mathlib.Core.Path.{_≡_};
-ghost use mathlib.Core.Bool.{false};
-ghost use Prim.Native.Nat.{_*_, _≤_};
-ghost use Rattle.screening.specs.Exposure.{X, Y, Z, groupOutOfRange, exposureOutOfRange, exposureAnswer, residential, worker, maxDays, maxYears, maxQuarterHours, maxBreathing};
+ghost use Rattle.exposure.specs.Exposure.{groupOutOfRange, exposureOutOfRange, exposureAnswer, residential, worker};
 
 const MAX_DAYS: u16 = 366;
 
@@ -94,7 +92,7 @@ impl Exposure {
 }
 
 // Ground 6.
-pub(crate) fn out_of_range(exposure: Exposure) -> bool
+pub fn out_of_range(exposure: Exposure) -> bool
     ensures { λ r. ⌜ r ≡ exposureOutOfRange exposure ⌝ }
 {
     let years = exposure.child.years as u64 + exposure.adult.years as u64;
@@ -108,47 +106,4 @@ fn group_out_of_range(group: Group) -> bool
         | (group.years > MAX_YEARS)
         | (group.quarter_hours > MAX_QUARTER_HOURS)
         | (group.breathing > MAX_BREATHING)
-}
-
-// A group's EF·ED·ET.
-fn group_quarter_hours(group: Group) -> u64
-    requires { ⌜ groupOutOfRange group ≡ false ⌝ }
-    ensures value { λ r. ⌜ r ≡ group .days * group .years * group .«quarter_hours» ⌝ }
-    ensures range { λ r. ⌜ r ≤ maxDays * maxYears * maxQuarterHours ⌝ }
-{
-    group.days as u64 * group.years as u64 * group.quarter_hours as u64
-}
-
-// A group's EF·ED·ET·IRA.
-fn group_air(group: Group) -> u64
-    requires { ⌜ groupOutOfRange group ≡ false ⌝ }
-    ensures value { λ r. ⌜ r ≡ group .days * group .years * group .«quarter_hours» * group .breathing ⌝ }
-    ensures range { λ r. ⌜ r ≤ maxDays * maxYears * maxQuarterHours * maxBreathing ⌝ }
-{
-    group_quarter_hours(group) * group.breathing as u64
-}
-
-// X, Y and Z sum over both groups.
-pub(crate) fn x(exposure: Exposure) -> u64
-    requires { ⌜ exposureOutOfRange exposure ≡ false ⌝ }
-    ensures value { λ r. ⌜ r ≡ X exposure ⌝ }
-    ensures range { λ r. ⌜ r ≤ 2 * (maxDays * maxYears * maxQuarterHours * maxBreathing) ⌝ }
-{
-    group_air(exposure.child) + group_air(exposure.adult)
-}
-
-pub(crate) fn y(exposure: Exposure) -> u64
-    requires { ⌜ exposureOutOfRange exposure ≡ false ⌝ }
-    ensures value { λ r. ⌜ r ≡ Y exposure ⌝ }
-    ensures range { λ r. ⌜ r ≤ 2 * (maxDays * maxYears * maxQuarterHours) ⌝ }
-{
-    group_quarter_hours(exposure.child) + group_quarter_hours(exposure.adult)
-}
-
-pub(crate) fn z(exposure: Exposure) -> u64
-    requires { ⌜ exposureOutOfRange exposure ≡ false ⌝ }
-    ensures value { λ r. ⌜ r ≡ Z exposure ⌝ }
-    ensures range { λ r. ⌜ (1 ≤ r) × (r ≤ 2 * maxYears) ⌝ }
-{
-    exposure.child.years as u64 + exposure.adult.years as u64
 }

@@ -1,12 +1,12 @@
--- `screening::exposure::group_air` meets its contract: the quarter hours and the breathing are each within their limit.
+-- `exposure::totals::group_air` meets its contract: the quarter hours and the breathing are each within their limit.
 use Prim.Native.Nat.{_*_, _≤_}
 use native.Mathlib.Nat.{mul-le-mul}
 use native.Mathlib.Omega.{arith}
 use borrow.Author.Needs.{needs}
-use Rattle.screening.specs.Exposure.{maxDays, maxYears, maxQuarterHours, maxBreathing}
-use Rattle.screening.proofs.WithinLimits.{group-within}
-use Rattle.screening.proofs.exposure.group_air.Statement.{statement}
-use Rattle.screening.proofs.exposure.group_air.Tie as tie
+use Rattle.exposure.specs.Exposure.{maxDays, maxYears, maxQuarterHours, maxBreathing}
+use Rattle.exposure.proofs.WithinLimits.{group-within}
+use Rattle.exposure.proofs.totals.group_air.Statement.{statement}
+use Rattle.exposure.proofs.totals.group_air.Tie as tie
 
 small : (c : tie.After-group-quarter-hours) → c .group-quarter-hours .result * c .before .args .group .breathing ≤ maxDays * maxYears * maxQuarterHours * maxBreathing
 small c = mul-le-mul (c .group-quarter-hours .ensures .1) (group-within (c .before .args .group) (c .before .pre) .breathing)

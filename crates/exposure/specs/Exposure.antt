@@ -1,26 +1,13 @@
--- X, Y and Z over both groups (document 01, "Verdict"), and ground 6. ET is in quarter hours (document 02, R-1).
-use Prim.Native.Nat.{ℕ, _+_, _*_}
+-- The defaults of an exposure, its limits, and ground 6 (document 01). ET is in quarter hours (document 02, R-1).
+use Prim.Native.Nat.{ℕ}
 use mathlib.Core.Bool.{Bool, cond, _||_}
 use lib.Dec.{ltb, eqb}
 use Rattle.refusals.specs.declared.Checked.{Checked}
 use Rattle.refusals.specs.declared.Refusal.{Refusal}
-use Rattle.screening.specs.declared.exposure.Group.{Group}
-use Rattle.screening.specs.declared.exposure.Exposure.{Exposure}
-use Rattle.screening.specs.declared.exposure.ExposureAnswer.{ExposureAnswer}
-
--- The sum of EF·ED·ET·IRA.
-abbrev pub X : Exposure → ℕ
-X e =
-    e .child .days * e .child .years * e .child .«quarter_hours» * e .child .breathing
-    + e .adult .days * e .adult .years * e .adult .«quarter_hours» * e .adult .breathing
-
--- The sum of EF·ED·ET.
-abbrev pub Y : Exposure → ℕ
-Y e = e .child .days * e .child .years * e .child .«quarter_hours» + e .adult .days * e .adult .years * e .adult .«quarter_hours»
-
--- The sum of ED.
-abbrev pub Z : Exposure → ℕ
-Z e = e .child .years + e .adult .years
+use Rattle.exposure.specs.Totals.{Z}
+use Rattle.exposure.specs.declared.groups.Group.{Group}
+use Rattle.exposure.specs.declared.groups.Exposure.{Exposure}
+use Rattle.exposure.specs.declared.groups.ExposureAnswer.{ExposureAnswer}
 
 -- The defaults of source 001, supplied by name: a resident and a worker.
 abbrev pub group : ℕ → ℕ → ℕ → ℕ → Group

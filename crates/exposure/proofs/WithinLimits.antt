@@ -8,9 +8,10 @@ use native.Mathlib.Omega.{arith}
 use borrow.Author.Tests.{ltb-false, eqb-false}
 use lib.Dec.{ltb, eqb}
 use Rattle.refusals.proofs.FirstMet.{neither}
-use Rattle.screening.specs.declared.exposure.Group.{Group}
-use Rattle.screening.specs.declared.exposure.Exposure.{Exposure}
-use Rattle.screening.specs.Exposure.{Z, maxDays, maxYears, maxQuarterHours, maxBreathing, groupOutOfRange, exposureOutOfRange}
+use Rattle.exposure.specs.declared.groups.Group.{Group}
+use Rattle.exposure.specs.declared.groups.Exposure.{Exposure}
+use Rattle.exposure.specs.Totals.{Z}
+use Rattle.exposure.specs.Exposure.{maxDays, maxYears, maxQuarterHours, maxBreathing, groupOutOfRange, exposureOutOfRange}
 
 pub record GroupWithin (g : Group) : Type 0 where
   pub days : g .days ≤ maxDays

@@ -1,0 +1,4 @@
+pub mod Exposure
+pub mod Totals
+pub mod WholeHours
+pub mod Promises

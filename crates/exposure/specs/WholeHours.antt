@@ -1,0 +1,71 @@
+-- An exposure in whole hours, as document 01 had it before document 02's R-1: its limits, its defaults, its X, Y and Z.
+-- No room is judged by these any more. They say what "must come out unchanged" means of an exposure, at the end.
+use Prim.Native.Nat.{ℕ, _+_, _*_}
+use mathlib.Core.Path.{_≡_}
+use mathlib.Core.Bool.{Bool, _||_}
+use lib.Dec.{ltb, eqb}
+use Rattle.exposure.specs.Totals.{X, Y, Z}
+use Rattle.exposure.specs.Exposure.{maxDays, maxYears, maxBreathing, group, residential, worker, exposureOutOfRange}
+use Rattle.exposure.specs.declared.groups.Group.{Group}
+use Rattle.exposure.specs.declared.groups.Exposure.{Exposure}
+
+-- Days per year EF, years ED, hours per day ET, breathing IRA.
+pub record HoursGroup : Type 0 where
+  pub days : ℕ
+  pub years : ℕ
+  pub hours : ℕ
+  pub breathing : ℕ
+
+pub record HoursExposure : Type 0 where
+  pub child : HoursGroup
+  pub adult : HoursGroup
+
+-- Restated in quarter hours.
+abbrev pub groupInQuarters : HoursGroup → Group
+groupInQuarters g = group (g .days) (g .years) (4 * g .hours) (g .breathing)
+
+abbrev pub inQuarters : HoursExposure → Exposure
+inQuarters e = record { child = groupInQuarters (e .child); adult = groupInQuarters (e .adult) }
+
+-- The sum of EF·ED·ET·IRA.
+abbrev pub hoursX : HoursExposure → ℕ
+hoursX e =
+    e .child .days * e .child .years * e .child .hours * e .child .breathing
+    + e .adult .days * e .adult .years * e .adult .hours * e .adult .breathing
+
+-- The sum of EF·ED·ET.
+abbrev pub hoursY : HoursExposure → ℕ
+hoursY e = e .child .days * e .child .years * e .child .hours + e .adult .days * e .adult .years * e .adult .hours
+
+-- The sum of ED.
+abbrev pub hoursZ : HoursExposure → ℕ
+hoursZ e = e .child .years + e .adult .years
+
+-- Child 350, 6, 24, 10 with adult 350, 20, 24, 20; worker 250, 25, 8, 60 as adult with the child group all zero.
+abbrev pub hoursGroup : ℕ → ℕ → ℕ → ℕ → HoursGroup
+hoursGroup days years hours breathing = record { days = days; years = years; hours = hours; breathing = breathing }
+
+abbrev pub hoursResidential : HoursExposure
+hoursResidential = record { child = hoursGroup 350 6 24 10; adult = hoursGroup 350 20 24 20 }
+
+abbrev pub hoursWorker : HoursExposure
+hoursWorker = record { child = hoursGroup 0 0 0 0; adult = hoursGroup 250 25 8 60 }
+
+-- 6. A group has EF over 366, ED over 100, ET over 24 or IRA over 100, or Z is 0.
+abbrev pub hoursGroupOutOfRange : HoursGroup → Bool
+hoursGroupOutOfRange g = ltb maxDays (g .days) || ltb maxYears (g .years) || ltb 24 (g .hours) || ltb maxBreathing (g .breathing)
+
+abbrev pub hoursOutOfRange : HoursExposure → Bool
+hoursOutOfRange e = hoursGroupOutOfRange (e .child) || hoursGroupOutOfRange (e .adult) || eqb (hoursZ e) 0
+
+-- Restated in quarter hours, it is the exposure of before.
+pub record HoursPromise : Type 0 where
+  -- the defaults are document 01's
+  pub residential : residential ≡ inQuarters hoursResidential
+  pub worker : worker ≡ inQuarters hoursWorker
+  -- ground 6 refuses what it refused
+  pub ground : (e : HoursExposure) → exposureOutOfRange (inQuarters e) ≡ hoursOutOfRange e
+  -- X and Y have the factor 4, Z does not
+  pub x : (e : HoursExposure) → X (inQuarters e) ≡ 4 * hoursX e
+  pub y : (e : HoursExposure) → Y (inQuarters e) ≡ 4 * hoursY e
+  pub z : (e : HoursExposure) → Z (inQuarters e) ≡ hoursZ e
