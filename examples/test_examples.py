@@ -57,7 +57,7 @@ def check_screen(texts):
 
 def main():
     texts = sorted(HERE.glob("*.txt"))
-    assert len(texts) == 3
+    assert len(texts) == 4
     for text in texts:
         check(text)
     print(f"{len(texts)} examples agree")

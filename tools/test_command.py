@@ -53,6 +53,7 @@ def test_readme(folder):
     (folder / "cellar.txt").write_text(RADON.read_text().replace("rate 0.18 per hour", "rate 0.18"))
     shown.append(run("encode", "cellar.txt", "cellar.job", cwd=folder)[2])
     shown += workroom(folder)
+    shown.append(guide(folder))
     shown += [path.read_text() for path in RADON.parent.glob("*.out")]
     for text in shown:
         assert "".join(f"    {line}\n" for line in text.splitlines()) in readme, text
@@ -73,10 +74,23 @@ def workroom(folder):
         assert encoded(hours)[0] == 0
         job = (folder / "cellar.job").read_bytes()
         assert job[44] == quarters
-        shown.append("\n".join(line for line in reported(job).splitlines() if line.startswith(("verdict", "level"))))
+        shown.append(verdict_and_level(job))
     status, _, said = encoded("7.8")
     assert status == 1
     return shown + [said]
+
+
+def guide(folder):
+    """Verdict and level of the guide's home at a target one thousandth of a mrem too low."""
+    text = RADON.with_name("guide.txt").read_text()
+    assert text.count("target 6_195 ") == 1
+    (folder / "guide.txt").write_text(text.replace("target 6_195 ", "target 6_194 "))
+    assert run("encode", "guide.txt", "guide.job", cwd=folder)[0] == 0
+    return verdict_and_level((folder / "guide.job").read_bytes())
+
+
+def verdict_and_level(job):
+    return "\n".join(line for line in reported(job).splitlines() if line.startswith(("verdict", "level")))
 
 
 def reported(job):

@@ -3,9 +3,9 @@
     make_cases.py CASES EXPECTED
 
 CASES gets one record a job: its length as a little-endian u16, then its bytes. EXPECTED gets the texts in
-order with nothing between. The count of every outcome is printed, and that of accepted jobs by the part of the
-hour in their exposure. The same files come out every time: the random numbers are made here, so that no
-library's choice can change them.
+order with nothing between. The count of every outcome is printed, that of accepted jobs by the part of the
+hour in their exposure, and that of accepted dose jobs by the sum of their two shares of the years. The same
+files come out every time: the random numbers are made here, so that no library's choice can change them.
 """
 
 import math
@@ -280,6 +280,31 @@ def edge_jobs(rng):
     return made
 
 
+# Years of child and adult where 100 * ED / Z is a half for both: both are rounded up, and the shares add up to 101 (R-2).
+HALVES = [(child, adult) for child in range(1, 101) for adult in range(1, 101)
+          if 200 * child % (child + adult) == 0 and 200 * child // (child + adult) % 2 == 1]
+
+
+def split_case(rng, years):
+    """A dose with the years given; both groups are exposed, each in its own way."""
+    case = random_case(rng, rng.between(1, 4))
+    child, adult = ((rng.between(1, 366), ED, rng.between(1, 96), rng.between(1, 100)) for ED in years)
+    case.job.update(kind=1, child=child, adult=adult)
+    return case
+
+
+def split_jobs(rng):
+    """Splits of the years with halves and at large, in turn, and targets so high that the shares' rounding moves them."""
+    made = []
+    while len(made) < 44:
+        at_large = rng.shuffled((rng.between(0, 100), rng.between(1, 100)))
+        case = split_case(rng, rng.one_of(HALVES) if len(made) % 4 == 0 else at_large)
+        edges = edge_targets(case)
+        if edges.get("last above", 0) >= 1_000 and "first below" in edges:
+            made += at_edges(case, ("last above", "first below"))
+    return made
+
+
 # ---- Other good jobs at the limits ---------------------------------------------------------------
 
 
@@ -330,19 +355,23 @@ def no_equilibrium_jobs(rng):
     return made
 
 
+def largest_case(rng, kind, v, T, years=(100, 100)):
+    members = [{"T": 10**15 if i == 0 else T} for i in range(16)]
+    for member in members:
+        member.update({name: ref.MOST for name in COEFFICIENTS + ("w",)})
+    child, adult = ((366, ED, 96, 100) for ED in years)
+    job = {"v": v, "kind": kind, "unit": 2, "value": bits(4e6), "target": 10**9, "child": child, "adult": adult}
+    return Case(job, members, [(i, 100_000, i - 1) for i in range(1, 16)], rng, W=rng.between(1, 2))
+
+
 def largest_jobs(rng):
     """Every number at its limit, so that the sums are as long as they get."""
-    made = []
-    for kind in (0, 1):
-        for v in (0, 1, 100_000):
-            for T in (1, LONGEST):
-                members = [{"T": 10**15 if i == 0 else T} for i in range(16)]
-                for member in members:
-                    member.update({name: ref.MOST for name in COEFFICIENTS + ("w",)})
-                group = (366, 100, 96, 100)
-                job = {"v": v, "kind": kind, "unit": 2, "value": bits(4e6), "target": 10**9, "child": group, "adult": group}
-                made.append(Case(job, members, [(i, 100_000, i - 1) for i in range(1, 16)], rng, W=rng.between(1, 2)).data())
-    return made
+    return [largest_case(rng, kind, v, T).data() for kind in (0, 1) for v in (0, 1, 100_000) for T in (1, LONGEST)]
+
+
+def largest_split_jobs(rng):
+    """The same for dose with 63 and 38 hundredths, 101 in all: no dose has a longer sum."""
+    return [largest_case(rng, 1, 0, 1, years).data() for years in ((100, 60), (60, 100))]
 
 
 def good_jobs(rng):
@@ -603,7 +632,7 @@ def pair(rng, low, high):
 
 
 def limit_jobs():
-    """Both edges of grounds 1 to 8, with answers that were typed from the document."""
+    """The rows, the shifts, the splits and both edges of grounds 1 to 8, with answers that were typed from the documents."""
     made = list(job_edges.edges())
     for data, line in made:
         assert line in ref.answer(data), line
@@ -612,7 +641,8 @@ def limit_jobs():
 
 def all_jobs():
     rng = Random(SEED)
-    return good_jobs(rng) + edge_jobs(rng) + one_ground_jobs(rng) + two_ground_jobs(rng) + limit_jobs()
+    made = good_jobs(rng) + edge_jobs(rng) + one_ground_jobs(rng) + two_ground_jobs(rng)
+    return made + split_jobs(rng) + largest_split_jobs(rng) + limit_jobs()
 
 
 def outcomes(texts):
@@ -622,15 +652,28 @@ def outcomes(texts):
     return {name: lines.count(name) for name in names}
 
 
-def parts_of_the_hour(jobs, texts):
-    """How many accepted jobs have a group in whole hours, in half hours, and in odd quarters; an ET of 0 is none of them."""
+def accepted(jobs, texts):
+    """The accepted jobs, read."""
+    return [ref.read_job(data)[0] for data, text in zip(jobs, texts) if not text.startswith("refused")]
+
+
+def parts_of_the_hour(jobs):
+    """How many have a group in whole hours, in half hours, and in odd quarters; an ET of 0 is none of them."""
     counts = {"whole hours": 0, "half hours": 0, "odd quarters": 0}
     names = ("whole hours", "odd quarters", "half hours", "odd quarters")
-    for data, text in zip(jobs, texts):
-        if not text.startswith("refused"):
-            job, _ = ref.read_job(data)
-            for name in {names[g.ET % 4] for g in (job.child, job.adult) if g.ET > 0}:
-                counts[name] += 1
+    for job in jobs:
+        for name in {names[g.ET % 4] for g in (job.child, job.adult) if g.ET > 0}:
+            counts[name] += 1
+    return counts
+
+
+def sums_of_shares(jobs):
+    """How many dose jobs have shares of the years that add up to 100, and to 101; there is no other sum."""
+    counts = {"dose, shares add up to 100": 0, "dose, shares add up to 101": 0}
+    for job in jobs:
+        groups = (job.child, job.adult)
+        if job.kind == ref.DOSE:
+            counts[f"dose, shares add up to {sum(ref.share_of_years(g, groups) for g in groups)}"] += 1
     return counts
 
 
@@ -648,7 +691,8 @@ def main():
     for data in jobs:
         ref.check(data)
     texts = [ref.answer(data) for data in jobs]
-    counts = outcomes(texts) | parts_of_the_hour(jobs, texts)
+    read = accepted(jobs, texts)
+    counts = outcomes(texts) | parts_of_the_hour(read) | sums_of_shares(read)
     size = sum(2 + len(data) for data in jobs)
     assert len(jobs) >= 1_000 and size < 600_000 and min(counts.values()) >= 10
     write_cases(sys.argv[1], jobs)

@@ -1,7 +1,7 @@
-"""Documents 01 and 02 (R-1) in exact whole numbers and fractions: the check from outside.
+"""Documents 01 and 02 (R-1, R-2) in exact whole numbers and fractions: the check from outside.
 
-It follows document 01's order and words, with exposure in quarter hours as R-1 of document 02 has it,
-and shares nothing with the proved program.
+It follows document 01's order and words, with exposure in quarter hours as R-1 of document 02 has it
+and with R-2's shares of the years for dose, and has nothing in common with the proved program.
 A job on standard input gives the text of `screen` on standard output;
 with --check it also asserts, on that job, what demand 3 promises.
 
@@ -12,6 +12,7 @@ import struct
 import sys
 from collections import namedtuple
 from fractions import Fraction
+from math import floor
 
 from plain_help import answer_help
 
@@ -136,20 +137,34 @@ def Z(groups):
     return sum(g.ED for g in groups)
 
 
+def share_of_years(g, groups):
+    """A group's share of the years (R-2): 100 * ED / Z rounded to the nearest whole, halves up."""
+    return floor(Fraction(100 * g.ED, Z(groups)) + Fraction(1, 2))
+
+
+def dose_X(groups):
+    """X for dose (R-2); risk keeps its own."""
+    return sum(g.EF * g.ET * g.IRA * share_of_years(g, groups) for g in groups)
+
+
+def dose_Y(groups):
+    """Y for dose (R-2); risk keeps its own."""
+    return sum(g.EF * g.ET * share_of_years(g, groups) for g in groups)
+
+
 def q(job, member):
     groups = (job.child, job.adult)
     if job.kind == RISK:
-        inhalation, submersion = member.inhalation_risk, member.submersion_risk
-    else:
-        inhalation, submersion = member.inhalation_dose, member.submersion_dose
-    return 365 * X(groups) * inhalation + Y(groups) * submersion
+        return 365 * X(groups) * member.inhalation_risk + Y(groups) * member.submersion_risk
+    return 365 * dose_X(groups) * member.inhalation_dose + dose_Y(groups) * member.submersion_dose
 
 
 def B(job):
-    """The target. The 4 is R-1's: X and Y count quarter hours, and 8,760 is still the hours of a year."""
+    """The target. The 4 is R-1's: X and Y count quarter hours, and 8,760 is still the hours of a year.
+    The 100 is R-2's, in place of Z: for dose X and Y count hundredths of the years."""
     if job.kind == RISK:
         return 4 * job.target * 37 * 8_760 * 10**8 * G
-    return 4 * job.target * Z((job.child, job.adult)) * 37 * 8_760 * 10**7 * G
+    return 4 * job.target * 100 * 37 * 8_760 * 10**7 * G
 
 
 def low_sum(job, book):

@@ -1,9 +1,11 @@
-"""Every row of document 01, restated in quarter hours (document 02, R-1), and its worked output, against the reference;
+"""Every row of document 01, restated in quarter hours and with the dose of document 02 (R-1, R-2), and its worked output,
+against the reference; R-2's share over every accepted pair of years;
 and that a job in whole hours, restated in quarters, keeps its verdict, its level and its refusal.
 
     test_reference.py
 """
 
+import itertools
 import math
 import struct
 
@@ -58,9 +60,44 @@ def test_balance():
     assert ref.factor_call(100, branched, 4) == [G, G // 4, G // 4, G // 4]
 
 
+def shares(groups):
+    return [ref.share_of_years(g, groups) for g in groups]
+
+
 def test_exposure():
-    assert (ref.X(ref.RESIDENTIAL), ref.Y(ref.RESIDENTIAL), ref.Z(ref.RESIDENTIAL)) == (15_456_000, 873_600, 26)
-    assert (ref.X(ref.WORKER), ref.Y(ref.WORKER), ref.Z(ref.WORKER)) == (12_000_000, 200_000, 25)
+    """Risk has the years; dose has 23 and 77 hundredths of them, or all: 336,000 * 23 + 672,000 * 77, and 480,000 * 100."""
+    home, work = ref.RESIDENTIAL, ref.WORKER
+    assert (ref.X(home), ref.Y(home), ref.Z(home)) == (15_456_000, 873_600, 26)
+    assert (ref.X(work), ref.Y(work), ref.Z(work)) == (12_000_000, 200_000, 25)
+    assert (ref.dose_X(home), ref.dose_Y(home), shares(home)) == (59_472_000, 3_360_000, [23, 77])
+    assert (ref.dose_X(work), ref.dose_Y(work), shares(work)) == (48_000_000, 800_000, [0, 100])
+    # The guide's air breathed in a year, in m3: X is in hundredths of the years and has 96 quarters to the day of IRA.
+    assert ref.dose_X(home) == 6_195 * 100 * 96
+
+
+def test_share():
+    """R-2's share from its meaning: within a half of 100 * ED / Z, and the upper of the two wholes where it is a half away.
+
+    The two shares add up to 100, or to 101 where both are halves. No pair gives 99: the two unrounded shares add up to 100, so
+    either one goes down by as much as the other goes up, or both are halves, and halves go up.
+    """
+    sums = {}
+    for child, adult in itertools.product(range(101), repeat=2):
+        if child + adult == 0:
+            continue  # ground 6
+        groups = ref.Group(350, child, 96, 10), ref.Group(350, adult, 96, 20)
+        exact = [ref.Fraction(100 * years, child + adult) for years in (child, adult)]
+        for years, number, share in zip((child, adult), exact, shares(groups)):
+            assert isinstance(share, int) and 2 * abs(share - number) <= 1
+            assert 2 * abs(share - number) < 1 or share > number
+            assert (share == 0) == (years == 0)
+        total = sum(shares(groups))
+        assert total == (101 if all(number.denominator == 2 for number in exact) else 100), (child, adult)
+        sums[total] = sums.get(total, 0) + 1
+        if shares(groups) == exact:  # nothing rounded: document 01's dose as it was
+            assert ref.dose_X(groups) * ref.Z(groups) == 100 * ref.X(groups)
+            assert ref.dose_Y(groups) * ref.Z(groups) == 100 * ref.Y(groups)
+    assert sums == {100: 10_084, 101: 116}
 
 
 def test_reading():
@@ -86,8 +123,9 @@ def test_verdict():
     for target, expected in ((1_610, "close"), (1_611, "below"), (1_609, "above")):
         assert field(screened(chain, 111_000, target, v=200), "verdict") == expected
     dose = parent_book(dose=1_000)
-    assert field(screened(dose, 370_000, 6_193, kind=1), "verdict") == "below"
-    assert field(screened(dose, 370_000, 6_192, kind=1), "verdict") == "above"
+    text = screened(dose, 370_000, 6_195, kind=1)
+    assert (field(text, "verdict"), field(text, "level")) == ("below", "370000")
+    assert field(screened(dose, 370_000, 6_194, kind=1), "verdict") == "above"
 
 
 def test_limits():
@@ -140,13 +178,24 @@ def test_f64_bits():
     assert struct.calcsize("<IBBBBIIQQ") + 16 == 48
 
 
-# ---- Document 01 as it stood, in whole hours: what must come out unchanged -----------------------
+# ---- Whole hours: document 01 as it stood, and for dose R-2 without the quarters ------------------
+
+
+def years_or_shares(job, groups):
+    """What stands for each group's years: for risk ED; for dose R-2's share, one more where half of Z or more is left over."""
+    years = [ED for _, ED, _, _ in groups]
+    if job.kind == 0:
+        return years
+    divided = [divmod(100 * ED, sum(years)) for ED in years]
+    return [whole if rest * 2 < sum(years) else whole + 1 for whole, rest in divided]
 
 
 def sums_in_hours(job, groups, book):
     """What C is multiplied by in Low and in High; the balance has no exposure in it and is the reference's."""
-    X = sum(EF * ED * ET * IRA for EF, ED, ET, IRA in groups)
-    Y = sum(EF * ED * ET for EF, ED, ET, _ in groups)
+    X = Y = 0
+    for (EF, _, ET, IRA), years in zip(groups, years_or_shares(job, groups)):
+        X += EF * ET * IRA * years
+        Y += EF * ET * years
     low = high = 0
     for i, factor in enumerate(ref.reported_factors(job.v, book)):
         _, h, s, dose_h, dose_s, _ = book.members[i]
@@ -156,11 +205,8 @@ def sums_in_hours(job, groups, book):
     return low, high
 
 
-def B_in_hours(job, groups, target):
-    if job.kind == 0:
-        return target * 37 * 8_760 * 10**8 * G
-    Z = sum(ED for _, ED, _, _ in groups)
-    return target * Z * 37 * 8_760 * 10**7 * G
+def B_in_hours(job, target):
+    return target * 37 * 8_760 * 10**8 * G if job.kind == 0 else target * 100 * 37 * 8_760 * 10**7 * G
 
 
 def lines_in_hours(low, high, B, C):
@@ -192,27 +238,33 @@ def random_in_hours(rng):
     make = rng.one_of((make_cases.random_case, make_cases.thin_case, make_cases.halved_case, make_cases.parent_case))
     case = make(rng)
     groups = rng.one_of(((0, 0, 0, 0), random_hours(rng))), random_hours(rng)
+    if rng.between(0, 3) == 0:  # shares that are halves
+        groups = [(EF, ED, ET, IRA) for (EF, _, ET, IRA), ED in zip(groups, rng.one_of(make_cases.HALVES))]
     case.job["child"], case.job["adult"] = map(in_quarters, groups)
     return case, groups
 
 
 def targets_in_hours(rng, low, high, one, C):
-    """About where Low and High meet B by document 01's formulas, where that is a target at all; and one drawn at large."""
+    """About where Low and High meet B in whole hours, where that is a target at all; and one drawn at large."""
     edges = {C * side // one + step for side in (low, high) for step in (-1, 0, 1)}
     return sorted(target for target in edges | {rng.spread(0, 10**9)} if 0 <= target <= 10**9)
 
 
 def test_whole_hours_unchanged():
-    """Whole hours restated in quarters: 4 times ET and 4 times B leave each verdict and each level as it was."""
+    """Whole hours restated in quarters: 4 times ET and 4 times B leave each verdict and each level as it was.
+
+    For risk that is what document 01's formulas give. For dose they no longer hold: there it is what R-2's formulas give with
+    ET in whole hours and B without the 4.
+    """
     rng = make_cases.Random(0x5175617274657273)
     seen = {}
     while sum(seen.values()) < 4_000:
         case, groups = random_in_hours(rng)
         job, C, book = ref.read_all(case.data())
         low, high = sums_in_hours(job, groups, book)
-        for target in targets_in_hours(rng, low, high, B_in_hours(job, groups, 1), C):
+        for target in targets_in_hours(rng, low, high, B_in_hours(job, 1), C):
             case.job["target"] = target
-            lines = lines_in_hours(low, high, B_in_hours(job, groups, target), C)
+            lines = lines_in_hours(low, high, B_in_hours(job, target), C)
             assert lines in ref.answer(case.data()), (groups, target, lines)
             outcome = job.kind, lines.split()[1]
             seen[outcome] = seen.get(outcome, 0) + 1

@@ -8,6 +8,7 @@ use Rattle.exposure.specs.Exposure.{exposureOutOfRange, exposureChecked}
 use Rattle.exposure.specs.Promises.{ExposurePromises}
 use Rattle.exposure.specs.declared.groups.Exposure.{Exposure}
 use Rattle.exposure.specs.declared.groups.ExposureAnswer.{ExposureAnswer}
+use Rattle.exposure.proofs.Shares.{share-promise, shares-promise}
 use Rattle.exposure.proofs.Restated.{whole-hours}
 
 by-ground :
@@ -17,4 +18,10 @@ by-ground e true = refl
 by-ground e false = refl
 
 pub exposure-promises : ExposurePromises
-exposure-promises = record { ground = λ e. by-ground e (exposureOutOfRange e); whole-hours = whole-hours }
+exposure-promises =
+    record {
+      by-ground = λ e. by-ground e (exposureOutOfRange e);
+      one-share = share-promise;
+      both-shares = shares-promise;
+      whole-hours = whole-hours;
+    }

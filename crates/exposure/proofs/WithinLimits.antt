@@ -1,6 +1,6 @@
 -- What the limits on an exposure say of its numbers: a disjunction is false where each of its tests is, and then each
 -- number is at most its limit, so that the products are too.
-use Prim.Native.Nat.{_*_, _≤_}
+use Prim.Native.Nat.{ℕ, _+_, _*_, _≤_, _<_}
 use mathlib.Core.Path.{_≡_}
 use mathlib.Core.Bool.{false, _||_}
 use native.Mathlib.Nat.{mul-le-mul}
@@ -10,7 +10,7 @@ use lib.Dec.{ltb, eqb}
 use Rattle.refusals.proofs.FirstMet.{neither}
 use Rattle.exposure.specs.declared.groups.Group.{Group}
 use Rattle.exposure.specs.declared.groups.Exposure.{Exposure}
-use Rattle.exposure.specs.Totals.{Z}
+use Rattle.exposure.specs.Totals.{Z, timeOf}
 use Rattle.exposure.specs.Exposure.{maxDays, maxYears, maxQuarterHours, maxBreathing, groupOutOfRange, exposureOutOfRange}
 
 pub record GroupWithin (g : Group) : Type 0 where
@@ -31,11 +31,9 @@ group-within g e =
       breathing = ltb-false maxBreathing (g .breathing) (three .1);
     }
 
-pub group-years : (g : Group) → GroupWithin g → g .days * g .years ≤ maxDays * maxYears
-group-years g l = mul-le-mul (l .days) (l .years)
-
-pub group-quarters : (g : Group) → GroupWithin g → g .days * g .years * g .«quarter_hours» ≤ maxDays * maxYears * maxQuarterHours
-group-quarters g l = mul-le-mul (group-years g l) (l .quarters)
+-- A group's time, of a duration up to 100.
+pub group-time-within : (g : Group) (duration : ℕ) → GroupWithin g → duration ≤ 100 → timeOf g duration ≤ maxDays * 100 * maxQuarterHours
+group-time-within g duration l within = mul-le-mul (mul-le-mul (l .days) within) (l .quarters)
 
 pub record ExposureWithin (e : Exposure) : Type 0 where
   pub child : groupOutOfRange (e .child) ≡ false
@@ -49,8 +47,22 @@ exposure-within e h =
     let each = neither (groupOutOfRange (e .child)) (groupOutOfRange (e .adult)) (groups .0) in
     record { child = each .0; adult = each .1; some-years = eqb-false (Z e) 0 (groups .1) }
 
-pub years-within : (e : Exposure) → ExposureWithin e → (1 ≤ Z e) × (Z e ≤ 2 * maxYears)
-years-within e l =
-    let child = group-within (e .child) (l .child) .years in
-    let adult = group-within (e .adult) (l .adult) .years in
-    (omega (arith, l .some-years), omega arith)
+-- The years of one group, beside those of both.
+abbrev YearsWithin : ℕ → ℕ → Type 0
+YearsWithin ED Z = (ED ≤ maxYears) × (ED ≤ Z) × (0 < Z) × (Z ≤ maxYears + maxYears)
+
+module _ (e : Exposure) (accepted : exposureOutOfRange e ≡ false) where
+  within : ExposureWithin e
+  within = exposure-within e accepted
+
+  child : e .child .years ≤ maxYears
+  child = group-within (e .child) (within .child) .years
+
+  adult : e .adult .years ≤ maxYears
+  adult = group-within (e .adult) (within .adult) .years
+
+  pub child-years : YearsWithin (e .child .years) (Z e)
+  child-years = (child, omega arith, omega (arith, within .some-years), omega (arith, child, adult))
+
+  pub adult-years : YearsWithin (e .adult .years) (Z e)
+  adult-years = (adult, omega arith, omega (arith, within .some-years), omega (arith, child, adult))

@@ -1,4 +1,5 @@
-pub mod Exposure
+pub mod Rounding
 pub mod Totals
+pub mod Exposure
 pub mod WholeHours
 pub mod Promises

@@ -1,51 +1,49 @@
-// What the verdict reads of an exposure: X, Y and Z over both groups.
+// What a verdict reads of an exposure: X and Y over both groups.
+use crate::durations::durations_of;
 use crate::groups::Exposure;
 use crate::groups::Group;
+use crate::kind::Kind;
 ghost use mathlib.Core.Path.{_≡_};
 ghost use mathlib.Core.Bool.{false};
 ghost use Prim.Native.Nat.{_*_, _≤_};
-ghost use Rattle.exposure.specs.Exposure.{groupOutOfRange, exposureOutOfRange, maxDays, maxYears, maxQuarterHours, maxBreathing};
-ghost use Rattle.exposure.specs.Totals.{X, Y, Z};
+ghost use Rattle.exposure.specs.Exposure.{groupOutOfRange, exposureOutOfRange, maxDays, maxQuarterHours, maxBreathing};
+ghost use Rattle.exposure.specs.Totals.{timeOf, airOf, totalsOf};
 
-// A group's EF·ED·ET.
-fn group_quarter_hours(group: Group) -> u64
-    requires { ⌜ groupOutOfRange group ≡ false ⌝ }
-    ensures value { λ r. ⌜ r ≡ group .days * group .years * group .«quarter_hours» ⌝ }
-    ensures range { λ r. ⌜ r ≤ maxDays * maxYears * maxQuarterHours ⌝ }
-{
-    group.days as u64 * group.years as u64 * group.quarter_hours as u64
+// The air that is breathed, X, and the time that is spent, Y.
+pub struct Totals {
+    pub x: u32,
+    pub y: u32,
 }
 
-// A group's EF·ED·ET·IRA.
-fn group_air(group: Group) -> u64
-    requires { ⌜ groupOutOfRange group ≡ false ⌝ }
-    ensures value { λ r. ⌜ r ≡ group .days * group .years * group .«quarter_hours» * group .breathing ⌝ }
-    ensures range { λ r. ⌜ r ≤ maxDays * maxYears * maxQuarterHours * maxBreathing ⌝ }
+// A group's days times its duration times its quarter hours.
+fn group_time(group: Group, duration: u64) -> u64
+    requires { ⌜ (groupOutOfRange group ≡ false) × (duration ≤ 100) ⌝ }
+    ensures value { λ r. ⌜ r ≡ timeOf group duration ⌝ }
+    ensures range { λ r. ⌜ r ≤ maxDays * 100 * maxQuarterHours ⌝ }
 {
-    group_quarter_hours(group) * group.breathing as u64
+    group.days as u64 * duration * group.quarter_hours as u64
 }
 
-// X, Y and Z sum over both groups.
-pub fn x(exposure: Exposure) -> u64
+// The same times its breathing.
+fn group_air(group: Group, duration: u64) -> u64
+    requires { ⌜ (groupOutOfRange group ≡ false) × (duration ≤ 100) ⌝ }
+    ensures value { λ r. ⌜ r ≡ airOf group duration ⌝ }
+    ensures range { λ r. ⌜ r ≤ maxDays * 100 * maxQuarterHours * maxBreathing ⌝ }
+{
+    group_time(group, duration) * group.breathing as u64
+}
+
+// X and Y of a kind, of an exposure within the limits.
+pub fn totals_of(kind: Kind, exposure: Exposure) -> Totals
     requires { ⌜ exposureOutOfRange exposure ≡ false ⌝ }
-    ensures value { λ r. ⌜ r ≡ X exposure ⌝ }
-    ensures range { λ r. ⌜ r ≤ 2 * (maxDays * maxYears * maxQuarterHours * maxBreathing) ⌝ }
+    ensures { λ r. ⌜ r ≡ totalsOf kind exposure ⌝ }
 {
-    group_air(exposure.child) + group_air(exposure.adult)
-}
-
-pub fn y(exposure: Exposure) -> u64
-    requires { ⌜ exposureOutOfRange exposure ≡ false ⌝ }
-    ensures value { λ r. ⌜ r ≡ Y exposure ⌝ }
-    ensures range { λ r. ⌜ r ≤ 2 * (maxDays * maxYears * maxQuarterHours) ⌝ }
-{
-    group_quarter_hours(exposure.child) + group_quarter_hours(exposure.adult)
-}
-
-pub fn z(exposure: Exposure) -> u64
-    requires { ⌜ exposureOutOfRange exposure ≡ false ⌝ }
-    ensures value { λ r. ⌜ r ≡ Z exposure ⌝ }
-    ensures range { λ r. ⌜ (1 ≤ r) × (r ≤ 2 * maxYears) ⌝ }
-{
-    exposure.child.years as u64 + exposure.adult.years as u64
+    let durations = durations_of(kind, exposure);
+    let x = group_air(exposure.child, durations.child) + group_air(exposure.adult, durations.adult);
+    let y = group_time(exposure.child, durations.child)
+        + group_time(exposure.adult, durations.adult);
+    Totals {
+        x: x as u32,
+        y: y as u32,
+    }
 }

@@ -1,5 +1,5 @@
--- The rows of document 01 that are marked for the check, restated in quarter hours (document 02, R-1): one list, one computation over
--- the definitions.
+-- The rows of document 01 that are marked for the check, restated in quarter hours (document 02, R-1), and those of dose by the guide's
+-- fractions (R-2): one list, one computation over the definitions.
 use Prim.Native.Nat.{ℕ, _/_}
 use mathlib.Core.Bool.{Bool, true, false, _&&_}
 use mathlib.Core.Path.{_≡_, refl}
@@ -16,6 +16,7 @@ use Rattle.balance.specs.Factors.{factorAnswer, factorList, answerNumber}
 use Rattle.reading.specs.Reading.{amountOf, mediumOf, whole, wholeAnswer, readingUnusable, concentrationTooHigh, intakeAnswer}
 use Rattle.reading.specs.declared.amounts.Intake.{Intake}
 use Rattle.reading.specs.declared.amounts.Whole.{Whole}
+use Rattle.exposure.specs.Rounding.{nearest}
 use Rattle.exposure.specs.Totals.{X, Y}
 use Rattle.exposure.specs.Exposure.{residential, worker, exposureOutOfRange}
 use Rattle.screening.specs.JobGrounds.{codeUnknown, attenuationOutOfRange}
@@ -24,10 +25,11 @@ use Rattle.book.specs.Sums.{sumBelow}
 use Rattle.screening.specs.WorkingLevels.{microLevels, workingLevels}
 use Rattle.screening.specs.Screening.{figuresAt, answerOf}
 use Rattle.exposure.specs.declared.groups.Exposure.{Exposure}
+use Rattle.exposure.specs.declared.kind.Kind.{Kind}
 use Rattle.screening.specs.declared.job.Outcome.{Outcome}
 use Rattle.screening.specs.declared.verdict.Verdict.{Verdict}
 use Rattle.screening.specs.declared.verdict.Verdict.the-variants.{Below, Close, Above}
-use Rattle.rows.specs.Encoding.{member, feed, bookBytes, riskJob}
+use Rattle.rows.specs.Encoding.{member, feed, bookBytes, riskJob, doseJob}
 
 -- K / 100: at rate 100 this half-life halves a factor.
 abbrev T′ : ℕ
@@ -51,11 +53,15 @@ diamond =
 abbrev alone : List ℕ
 alone = bookBytes 1000 (member 1 (1000 ∷ 0 ∷ 0 ∷ 0 ∷ 0 ∷ []) 0 ∷ []) []
 
+-- The parent alone, with an inhalation dose coefficient of 1,000.
+abbrev aloneAtDose : List ℕ
+aloneAtDose = bookBytes 1000 (member 1 (0 ∷ 0 ∷ 1000 ∷ 0 ∷ 0 ∷ []) 0 ∷ []) []
+
 -- The first row's chain, with h = 1,000 for member 1.
 abbrev daughterAtRisk : List ℕ
 daughterAtRisk = bookBytes 1000 (member 1 noCoefficients 0 ∷ member T′ (1000 ∷ 0 ∷ 0 ∷ 0 ∷ 0 ∷ []) 1 ∷ []) (feed 100000 0 0 ∷ [])
 
--- The bits of f64s, as a job has them: 0.5, 1.0, 3.0, 4.0 and 100.0.
+-- The bits of f64s, as a job has them: 0.5, 1.0, 3.0, 4.0, 10.0 and 100.0.
 abbrev half : ℕ
 half = 0x3fe0000000000000
 
@@ -68,14 +74,17 @@ three = 0x4008000000000000
 abbrev four : ℕ
 four = 0x4010000000000000
 
+abbrev ten : ℕ
+ten = 0x4024000000000000
+
 abbrev hundred : ℕ
 hundred = 0x4059000000000000
 
 pub data Row : Type 0 where
   -- the factor call at a rate on a book leaves these factors
   factors : ℕ → List ℕ → List ℕ → Row
-  -- an exposure has this X and this Y
-  exposed : Exposure → ℕ → ℕ → Row
+  -- for a kind, an exposure has this X and this Y
+  exposed : Kind → Exposure → ℕ → ℕ → Row
   -- in a unit, an f64 of these bits is so many mBq/m³
   reads : ℕ → ℕ → ℕ → Row
   -- in a medium, a unit and at an attenuation, a reading of these bits without uncertainty is this concentration
@@ -115,7 +124,7 @@ pub holds : Row → Bool
 holds (factors v book expected) =
     eqb (answerNumber (factorAnswer v book (length expected))) (length expected)
     && sameList (factorList v book (replicate (length expected) 0)) expected
-holds (exposed e x y) = eqb (X e) x && eqb (Y e) y
+holds (exposed kind e x y) = eqb (X kind e) x && eqb (Y kind e) y
 holds (reads unit bits n) = numberIs (wholeAnswer (amountOf unit (ofBits binary64 bits))) n
 holds (measures medium unit af bits C) =
     concentrationIs (intakeAnswer unit (mediumOf medium) af (record { value = ofBits binary64 bits; uncertainty = ofBits binary64 0 })) C
@@ -135,8 +144,10 @@ marked =
     ∷ factors 0 (oneDaughter 33333) (G ∷ 366500210886 ∷ [])
     ∷ factors 0 diamond (G ∷ G / 2 ∷ G / 2 ∷ G ∷ [])
     ∷ factors 100 diamond (G ∷ G / 4 ∷ G / 4 ∷ G / 4 ∷ [])
-    ∷ exposed residential 15456000 873600
-    ∷ exposed worker 12000000 200000
+    ∷ exposed Kind.Risk residential 15456000 873600
+    ∷ exposed Kind.Risk worker 12000000 200000
+    ∷ exposed Kind.Dose residential 59472000 3360000
+    ∷ exposed Kind.Dose worker 48000000 800000
     ∷ reads 0 four 148000
     ∷ reads 1 half 19
     ∷ measures 2 0 1000 hundred 16058
@@ -148,8 +159,11 @@ marked =
     ∷ judged (riskJob 200 1610 three residential daughterAtRisk) Close
     ∷ judged (riskJob 200 1611 three residential daughterAtRisk) Below
     ∷ judged (riskJob 200 1609 three residential daughterAtRisk) Above
+    ∷ judged (doseJob 0 6195 ten residential aloneAtDose) Below
+    ∷ judged (doseJob 0 6194 ten residential aloneAtDose) Above
+    ∷ levelled (doseJob 0 6195 ten residential aloneAtDose) 370000
     ∷ []
 
 pub every-marked-row-holds : allHold marked ≡ true
-unfolding marked allHold holds sameList along someBelow someIn bookTooShort countOutOfRange bookLengthWrong headerInvalid memberOutOfRange feedOutOfRange walk occurrences feedNotOnce feedsMisplaced feedNotFromLower sharesOutTooHigh reported exposureOutOfRange whole readingUnusable concentrationTooHigh codeUnknown attenuationOutOfRange sumBelow level workingLevels figuresAt numberIs concentrationIs verdictIs levelIs odd ofBits trailingZeros
+unfolding marked allHold holds sameList along someBelow someIn bookTooShort countOutOfRange bookLengthWrong headerInvalid memberOutOfRange feedOutOfRange walk occurrences feedNotOnce feedsMisplaced feedNotFromLower sharesOutTooHigh reported nearest exposureOutOfRange whole readingUnusable concentrationTooHigh codeUnknown attenuationOutOfRange sumBelow level workingLevels figuresAt numberIs concentrationIs verdictIs levelIs odd ofBits trailingZeros
 every-marked-row-holds = refl

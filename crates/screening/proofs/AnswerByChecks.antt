@@ -12,23 +12,17 @@ use Rattle.book.specs.Fields.{coefficient}
 use Rattle.book.specs.Table.{tableOf}
 use Rattle.book.specs.declared.table.ChainTable.{ChainTable}
 use Rattle.reading.specs.declared.amounts.Intake.{Intake}
-use Rattle.screening.specs.Job.{rate, concentrationOf, intakeOf, exposureOf, jobLength, bookOf}
+use Rattle.screening.specs.Job.{rate, concentrationOf, intakeOf, jobLength, bookOf}
 use Rattle.screening.specs.JobGrounds.{checkedJob}
 use Rattle.screening.specs.Screening.{criterionOf, screenedAt, refusedWith, answerFor, answerWith, answerOf}
-use Rattle.screening.specs.Private.Tabled.{CriterionInRange}
 use Rattle.screening.specs.Private.Checks.{fieldGrounds, concentrationIn, Screenable}
 use Rattle.screening.specs.declared.job.Answer.{Answer}
 use Rattle.screening.specs.declared.verdict.Criterion.{Criterion}
-use Rattle.exposure.proofs.WithinLimits.{exposure-within, years-within}
-use Rattle.screening.proofs.JobChecks.{refused-by-fields, FieldsPass, JobPasses, job-passes}
+use Rattle.screening.proofs.JobChecks.{refused-by-fields, JobPasses, job-passes}
 
 -- The part of a job after its own bytes, as the code lends it: as many bytes as are left are all that are left.
 pub lent-book : (job : List ℕ) → take (length job - jobLength) (bookOf job) ≡ bookOf job
 lent-book job = take-all (length job - jobLength) (bookOf job) (le-of-eq (length-drop jobLength job))
-
-pub in-range : (job : List ℕ) → FieldsPass job → CriterionInRange (criterionOf job)
-in-range job passes =
-    record { years = years-within (exposureOf job) (exposure-within (exposureOf job) (passes .exposure)) .1; target = passes .target }
 
 module _ (job book : List ℕ) {found : Checked} (told : found ≡ checkedJob job book) where
   pub refused-is : {refusal : Refusal} {answer : Answer} → found ≡ Checked.Refused refusal → answer ≡ refusedWith refusal → answer ≡ answerWith job book
@@ -46,7 +40,7 @@ module _ (job book : List ℕ) {found : Checked} (told : found ≡ checkedJob jo
     pub screenable : {table : ChainTable} → table ≡ tableOf book → Screenable by v C book table
     screenable read =
         record {
-          criterion = rw judged-by (in-range job (passes .fields));
+          target = rw judged-by (passes .fields .target);
           rate = rw at (passes .fields .rate);
           concentration = rw concentration-is (passes .reading .within);
           accepted = passes .accepted;

@@ -1,11 +1,11 @@
 -- An exposure in whole hours, restated in quarter hours, has four times its X and Y, and B has the factor 4 too: so verdict and level
--- are document 01's own.
+-- are those of the formulas in whole hours.
 use Prim.Native.Nat.{ℕ, _+_, _*_}
 use native.Mathlib.Omega.{arith}
 use mathlib.Core.Path.{_≡_, refl, ap, ap₂, sym, _∙_}
 use mathlib.Core.List.{List}
 use Rattle.book.specs.Fields.{coefficient}
-use Rattle.exposure.specs.WholeHours.{HoursExposure, inQuarters, hoursX, hoursY, hoursZ}
+use Rattle.exposure.specs.WholeHours.{HoursExposure, inQuarters, hoursX, hoursY}
 use Rattle.exposure.specs.declared.groups.Exposure.{Exposure}
 use Rattle.exposure.proofs.Restated as restated
 use Rattle.screening.specs.Job.{rate, exposureOf, bookOf}
@@ -15,16 +15,16 @@ use Rattle.screening.specs.WholeHours.{hoursBound, hoursAssessment, hour
 use Rattle.screening.specs.CommonFactor.{CommonFactor, Unchanged}
 use Rattle.screening.specs.declared.job.Figures.{Figures}
 use Rattle.screening.specs.declared.job.Outcome.{Outcome}
-use Rattle.screening.specs.declared.verdict.Kind.{Kind}
+use Rattle.exposure.specs.declared.kind.Kind.{Kind}
 use Rattle.screening.proofs.CommonFactor.{common-factor}
 use Rattle.screening.proofs.Answers.{verdict-is, level-is, concentration-is}
 
 weight-carries : (x y h s : ℕ) {x′ y′ : ℕ} → x′ ≡ 4 * x → y′ ≡ 4 * y → 365 * x′ * h + y′ * s ≡ 4 * (365 * x * h + y * s)
 weight-carries x y h s ex ey = rw (ex, ey) (omega arith)
 
-bound-restated : (kind : Kind) (Z target : ℕ) → bound kind Z target ≡ 4 * hoursBound kind Z target
-bound-restated Kind.Risk Z target = omega arith
-bound-restated Kind.Dose Z target = omega arith
+bound-restated : (kind : Kind) (target : ℕ) → bound kind target ≡ 4 * hoursBound kind target
+bound-restated Kind.Risk target = omega arith
+bound-restated Kind.Dose target = omega arith
 
 module _ (kind : Kind) (e : HoursExposure) (target : ℕ) (book : List ℕ) (coefficient : ℕ → ℕ → ℕ) (v : ℕ) where
   four-times :
@@ -32,9 +32,9 @@ module _ (kind : Kind) (e : HoursExposure) (target : ℕ) (book : List ℕ) (coe
   four-times =
       record {
         count = refl;
-        weight = λ i l. weight-carries (hoursX e) (hoursY e) _ _ (restated.whole-hours .x e) (restated.whole-hours .y e);
+        weight = λ i l. weight-carries (hoursX kind e) (hoursY kind e) _ _ (restated.whole-hours .x kind e) (restated.whole-hours .y kind e);
         factor = λ i l. refl;
-        bound = bound-restated kind (hoursZ e) target;
+        bound = bound-restated kind target;
       }
 
   judged : Unchanged (hoursAssessment kind e target book coefficient v) (assessmentAt (criterionFor kind (inQuarters e) target) book coefficient v)

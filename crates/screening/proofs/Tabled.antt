@@ -22,7 +22,7 @@ use Rattle.screening.specs.declared.job.Answer.{Answer}
 use Rattle.screening.specs.declared.job.Outcome.{Outcome}
 use Rattle.screening.specs.declared.verdict.Criterion.{Criterion}
 use Rattle.screening.specs.declared.verdict.Judgement.{Judgement}
-use Rattle.screening.specs.declared.verdict.Kind.{Kind}
+use Rattle.exposure.specs.declared.kind.Kind.{Kind}
 use Rattle.screening.specs.declared.working.WorkingLevels.{WorkingLevels}
 use Rattle.screening.proofs.Alike.{alpha-same, judged-same}
 use Rattle.screening.proofs.Falling.{alpha-falls}
@@ -87,7 +87,7 @@ module _ {by : Criterion} {v C : ℕ} {book : List ℕ} {table : ChainTable} (as
     pub judgeable : Judgeable by C (table .members) made
     judgeable =
         record {
-          criterion = asked .criterion;
+          target = asked .target;
           concentration = asked .concentration;
           members = some-members .1;
           capped = λ i l.

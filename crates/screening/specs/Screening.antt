@@ -8,7 +8,7 @@ use Rattle.book.specs.Limits.{maxMembers}
 use Rattle.book.specs.Fields.{members, workingLevelDivisor, coefficient}
 use Rattle.balance.specs.Factors.{factorAt, factorList}
 use Rattle.screening.specs.Job.{rate, kind, target, exposureOf, concentrationOf, bookOf}
-use Rattle.exposure.specs.Totals.{X, Y, Z}
+use Rattle.exposure.specs.Totals.{X, Y}
 use Rattle.screening.specs.JobGrounds.{checkedJob}
 use Rattle.screening.specs.Verdict.{Assessment, kindOf, weightOf, boundOf, verdictAt, level}
 use Rattle.screening.specs.WorkingLevels.{alphaSum, workingLevels}
@@ -17,11 +17,11 @@ use Rattle.screening.specs.declared.job.Answer.{Answer}
 use Rattle.screening.specs.declared.job.Figures.{Figures}
 use Rattle.screening.specs.declared.job.Outcome.{Outcome}
 use Rattle.screening.specs.declared.verdict.Criterion.{Criterion}
-use Rattle.screening.specs.declared.verdict.Kind.{Kind}
+use Rattle.exposure.specs.declared.kind.Kind.{Kind}
 
 -- What a room is judged by.
 abbrev pub criterionFor : Kind → Exposure → ℕ → Criterion
-criterionFor kind e target = record { kind = kind; x = X e; y = Y e; z = Z e; target = target }
+criterionFor kind e target = record { kind = kind; x = X kind e; y = Y kind e; target = target }
 
 -- And a job's room.
 abbrev pub criterionOf : List ℕ → Criterion

@@ -5,7 +5,7 @@ use lib.Dec.{leb, eqb}
 use Rattle.book.specs.Sums.{sumBelow}
 use Rattle.balance.specs.Balance.{G}
 use Rattle.screening.specs.declared.verdict.Criterion.{Criterion}
-use Rattle.screening.specs.declared.verdict.Kind.{Kind}
+use Rattle.exposure.specs.declared.kind.Kind.{Kind}
 use Rattle.screening.specs.declared.verdict.Verdict.{Verdict}
 use Rattle.screening.specs.declared.verdict.Verdict.the-variants.{Below, Close, Above}
 
@@ -23,18 +23,18 @@ abbrev pub submersion : Kind → ℕ
 submersion Kind.Risk = 1
 submersion Kind.Dose = 3
 
--- A room is judged by a kind, X, Y, Z and a target.
+-- A room is judged by a kind, its X and Y, and a target.
 -- q(i) = 365·X·h + Y·s, of the coefficients in use.
 abbrev pub weightOf : Criterion → (ℕ → ℕ → ℕ) → ℕ → ℕ
 weightOf by coefficient i = 365 * by .x * coefficient i (inhalation (by .kind)) + by .y * coefficient i (submersion (by .kind))
 
--- B. Its factor 4 matches the quarter hours of X and Y (document 02, R-1).
-abbrev pub bound : Kind → ℕ → ℕ → ℕ
-bound Kind.Risk Z target = target * 37 * (4 * 8760) * 10 ^ 8 * G
-bound Kind.Dose Z target = target * Z * 37 * (4 * 8760) * 10 ^ 7 * G
+-- B. Its factor 4 matches the quarter hours of X and Y (document 02, R-1), and the 100 of dose, in Z's place, their hundredths (R-2).
+abbrev pub bound : Kind → ℕ → ℕ
+bound Kind.Risk target = target * 37 * (4 * 8760) * 10 ^ 8 * G
+bound Kind.Dose target = target * 100 * 37 * (4 * 8760) * 10 ^ 7 * G
 
 abbrev pub boundOf : Criterion → ℕ
-boundOf by = bound (by .kind) (by .z) (by .target)
+boundOf by = bound (by .kind) (by .target)
 
 -- What a verdict is reached on: so many members, the weight q and the reported factor of each, in grains, and B.
 pub record Assessment : Type 0 where

@@ -1,15 +1,13 @@
 // The fields of a job; past the end a byte reads as 0.
 use crate::verdict::Criterion;
-use crate::verdict::Kind;
 use book::u8_at;
 use book::u16_at;
 use book::u32_at;
 use book::u64_at;
 use exposure::Exposure;
 use exposure::Group;
-use exposure::x;
-use exposure::y;
-use exposure::z;
+use exposure::Kind;
+use exposure::totals_of;
 use reading::Medium;
 use reading::Reading;
 use reading::bits_unusable;
@@ -144,11 +142,11 @@ pub(crate) fn criterion_of(job: &[u8]) -> Criterion
 {
     let exposure = exposure_of(job);
     let kind = kind_of(job);
+    let totals = totals_of(kind, exposure);
     Criterion {
         kind,
-        x: x(exposure) as u32,
-        y: y(exposure) as u32,
-        z: z(exposure) as u32,
+        x: totals.x,
+        y: totals.y,
         target: target_of(job),
     }
 }

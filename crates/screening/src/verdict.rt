@@ -4,10 +4,12 @@ ghost use Prim.Native.Nat.{_+_, _*_, _≤_};
 ghost use Rattle.wide.specs.Value.{value};
 ghost use Rattle.balance.specs.Balance.{G};
 ghost use Rattle.screening.specs.Verdict.{verdictOf, inhalation, submersion, boundOf, cappedQuotient, maxLevel};
-ghost use Rattle.screening.specs.Private.Tabled.{CriterionInRange, assessmentIn, judgedOn, Judgeable};
+ghost use Rattle.screening.specs.JobGrounds.{maxTarget};
+ghost use Rattle.screening.specs.Private.Tabled.{assessmentIn, judgedOn, Judgeable};
 use crate::weighted::weighted_sum;
 use book::COEFFICIENTS;
 use book::MAX_MEMBERS;
+use exposure::Kind;
 use wide::at_most;
 use wide::capped_quotient;
 use wide::from_u64;
@@ -27,20 +29,17 @@ const RISK_SCALE: u32 = 100_000_000;
 
 const DOSE_SCALE: u32 = 10_000_000;
 
+// Dose counts the years of each group in hundredths of both groups' years.
+const HUNDREDTHS: u64 = 100;
+
 // 2^20: the parent has 2^40 grains.
 const ROOT_OF_GRAINS: u32 = 0x10_0000;
 
-pub enum Kind {
-    Risk,
-    Dose,
-}
-
-// What a room is judged by: the kind, X, Y and Z over both groups, and the target.
+// What a room is judged by: the kind, its X and Y over both groups, and the target.
 pub struct Criterion {
     pub kind: Kind,
     pub x: u32,
     pub y: u32,
-    pub z: u32,
     pub target: u32,
 }
 
@@ -68,7 +67,7 @@ pub(crate) fn first_place(kind: Kind) -> usize
 
 // B.
 fn bound_of(by: Criterion) -> [u32; 6]
-    requires { ⌜ CriterionInRange by ⌝ }
+    requires { ⌜ by .target ≤ maxTarget ⌝ }
     ensures { λ r. ⌜ value r ≡ boundOf by ⌝ }
 {
     let kind = by.kind;
@@ -79,7 +78,7 @@ fn bound_of(by: Criterion) -> [u32; 6]
             RISK_SCALE,
         ),
         Kind::Dose => in_grains(
-            target * by.z as u64 * MILLIBECQUERELS * QUARTER_HOURS_PER_YEAR,
+            target * HUNDREDTHS * MILLIBECQUERELS * QUARTER_HOURS_PER_YEAR,
             DOSE_SCALE,
         ),
     }

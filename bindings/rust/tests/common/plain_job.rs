@@ -72,11 +72,14 @@ fn refused_field(job: &Job) -> Option<u32> {
 fn judged(job: &Job, chain: &Chain, factors: &[u64], air: u128) -> (&'static str, u128) {
     let dose = job.bytes[4] == 1;
     let groups = job.groups();
-    let x: u128 = groups.iter().map(|[ef, ed, et, ira]| ef * ed * et * ira).sum();
-    let y: u128 = groups.iter().map(|[ef, ed, et, _]| ef * ed * et).sum();
-    // ET is in quarter hours, so the bound is four times what it was for hours (R-1 of document 02).
+    // Risk counts a group's years; dose its share of the years in hundredths, to the nearest, halves up (R-2 of document 02).
+    let share = |ed: u128| 100 * ed / job.years() + u128::from(2 * (100 * ed % job.years()) >= job.years());
+    let part = |ed: u128| if dose { share(ed) } else { ed };
+    let x: u128 = groups.iter().map(|[ef, ed, et, ira]| ef * part(*ed) * et * ira).sum();
+    let y: u128 = groups.iter().map(|[ef, ed, et, _]| ef * part(*ed) * et).sum();
+    // ET is in quarter hours, so the bound is four times what it was for hours.
     let target = 4 * u128::from(job.number(8, 4)) * 37 * 8_760 * GRAINS;
-    let bound = if dose { target * job.years() * 10_000_000 } else { target * 100_000_000 };
+    let bound = if dose { target * 100 * 10_000_000 } else { target * 100_000_000 };
     let (mut low, mut high) = (0, 0);
     for (i, member) in chain.members.iter().enumerate() {
         let [h, s] = if dose { [2, 3] } else { [0, 1] }.map(|k| u128::from(member.numbers[k]));

@@ -14,7 +14,6 @@ use Rattle.reading.specs.Reading.{readingUnusable, concentrationTooHigh, maxCon
 use Rattle.screening.specs.Job.{rate, target, readingOf, forReading, exposureOf, jobLength}
 use Rattle.exposure.specs.Exposure.{exposureOutOfRange}
 use Rattle.screening.specs.JobGrounds.{codeUnknown, maxTarget, attenuationOutOfRange}
-use Rattle.screening.specs.Private.Tabled.{CriterionInRange}
 use Rattle.reading.specs.declared.amounts.Intake.{Intake}
 use Rattle.screening.specs.declared.verdict.Criterion.{Criterion}
 
@@ -44,7 +43,7 @@ concentrationIn Intake.Unusable = 0
 
 -- What is screened: numbers within their limits, and an accepted book with its table.
 pub record Screenable (by : Criterion) (v C : ℕ) (book : List ℕ) (table : ChainTable) : Type 0 where
-  pub criterion : CriterionInRange by
+  pub target : by .target ≤ maxTarget
   pub rate : v ≤ maxRate
   pub concentration : C ≤ maxConcentration
   pub accepted : Accepted book

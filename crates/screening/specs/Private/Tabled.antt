@@ -6,7 +6,6 @@ use Rattle.book.specs.Limits.{maxMembers}
 use Rattle.book.specs.Fields.{coefficientCount}
 use Rattle.balance.specs.Balance.{G}
 use Rattle.reading.specs.Reading.{maxConcentration}
-use Rattle.exposure.specs.Exposure.{maxYears}
 use Rattle.screening.specs.JobGrounds.{maxTarget}
 use Rattle.screening.specs.Verdict.{Assessment, weightOf, boundOf, verdictAt, level}
 use Rattle.screening.specs.declared.verdict.Criterion.{Criterion}
@@ -29,12 +28,8 @@ abbrev pub judgedOn : Assessment → ℕ → Judgement
 judgedOn a C = record { verdict = verdictAt a C; level = level a }
 
 -- What the checks of a job leave of its numbers.
-pub record CriterionInRange (by : Criterion) : Type 0 where
-  pub years : by .z ≤ 2 * maxYears
-  pub target : by .target ≤ maxTarget
-
 pub record Judgeable (by : Criterion) (C count : ℕ) (factors : List ℕ) : Type 0 where
-  pub criterion : CriterionInRange by
+  pub target : by .target ≤ maxTarget
   pub concentration : C ≤ maxConcentration
   pub members : count ≤ maxMembers
   pub capped : (i : ℕ) → i < count → getD factors i 0 ≤ G

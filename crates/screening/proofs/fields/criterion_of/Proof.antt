@@ -1,8 +1,8 @@
 -- `screening::fields::criterion_of` meets its contract: each field is what its reader returns of the job or of its exposure, which is within the limits.
 use borrow.Author.Needs.{needs}
-use mathlib.Core.Path.{_≡_, ap, _∙_}
+use mathlib.Core.Path.{_≡_, ap, ap₂, _∙_}
 use mathlib.Core.Bool.{false}
-use Rattle.exposure.specs.Totals.{X, Y, Z}
+use Rattle.exposure.specs.Totals.{totalsOf}
 use Rattle.exposure.specs.Exposure.{exposureOutOfRange}
 use Rattle.screening.proofs.fields.criterion_of.Statement.{statement}
 use Rattle.screening.proofs.fields.criterion_of.Tie as tie
@@ -13,19 +13,10 @@ exposed c = ap exposureOutOfRange (c .exposure-of .ensures) ∙ c .before .befor
 
 returns : tie.Need-returns
 returns c =
-    let z = c .before in
-    let y = z .before in
-    let x = y .before in
-    let exposure = x .before .before .exposure-of .ensures in
-    rw (
-      x .before .kind-of .ensures,
-      x .x .ensures .0 ∙ ap X exposure,
-      y .y .ensures .0 ∙ ap Y exposure,
-      z .z .ensures .0 ∙ ap Z exposure,
-      c .target-of .ensures,
-    )
+    let totals = c .before in
+    let kind = totals .before .kind-of .ensures in
+    let exposure = totals .before .before .exposure-of .ensures in
+    rw (totals .totals-of .ensures ∙ ap₂ totalsOf kind exposure, kind, c .target-of .ensures)
 
 pub criterion-of-spec : {M : Type 1} → statement M
-criterion-of-spec =
-    tie.close
-    (tie.spec (search needs) (search needs) (λ c κs. exposed (c .before)) (search needs) (λ c κs. exposed (c .before .before)) (search needs) (λ c κs. exposed (c .before .before .before)) (search needs) (search needs) returns)
+criterion-of-spec = tie.close (tie.spec (search needs) (search needs) (λ c κs. exposed (c .before)) (search needs) returns)

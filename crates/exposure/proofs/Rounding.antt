@@ -1,0 +1,54 @@
+-- A quotient rounded to the nearest whole, halves up, is the one n with 2·n·b ≤ 2·a + b < 2·(n + 1)·b: less than a half below a / b, and at
+-- most a half above it.
+use Prim.Native.Nat.{ℕ, suc, _+_, _*_, _/_, _≤_, _<_}
+use native.Mathlib.Nat.{le-antisymm, eq-or-lt-of-le, lt-of-mul-lt-mul-left, div-add-mod, mod-lt}
+use native.Mathlib.Omega.{arith}
+use mathlib.Core.Path.{_≡_}
+use mathlib.Core.Logic.{_⊎_, inl, inr}
+use Rattle.exposure.specs.Rounding.{nearest, NearestHalfUp}
+
+pub record Between (a b n : ℕ) : Type 0 where
+  pub above : 2 * (n * b) ≤ 2 * a + b
+  pub below : 2 * a < 2 * (n * b) + b
+
+-- What every quotient rounded down is.
+record Quotient (x y q : ℕ) : Type 0 where
+  pub fits : q * y ≤ x
+  pub next-is-more : x < q * y + y
+
+quotient : (x y : ℕ) → 0 < y → Quotient x y (x / y)
+quotient x y pos =
+    let parts = div-add-mod x y in
+    let rest = mod-lt x pos in
+    record { fits = omega arith; next-is-more = omega arith }
+
+pub nearest-between : (a b : ℕ) → 0 < b → Between a b (nearest a b)
+unfolding nearest
+nearest-between a b pos =
+    let q : Quotient _ _ (nearest a b) = quotient _ _ (omega arith) in
+    record { above = omega (arith, q .fits); below = omega (arith, q .next-is-more) }
+
+at-most-another : {a b m n : ℕ} → Between a b m → Between a b n → m ≤ n
+at-most-another {a} {b} {m} {n} x y =
+    let l : m < suc n = lt-of-mul-lt-mul-left b (omega (arith, x .above, y .below)) in omega arith
+
+unique : {a b m n : ℕ} → Between a b m → Between a b n → m ≡ n
+unique x y = le-antisymm (at-most-another x y) (at-most-another y x)
+
+-- A half is between the two wholes next to it, and the upper of them is the one.
+half-up : {a b n : ℕ} → 0 < b → Between a b n → (m : ℕ) → 2 * a ≡ 2 * (m * b) + b → n ≡ suc m
+half-up {a} {b} pos x m half = unique x (record { above = omega arith; below = omega arith })
+
+pub between-is : {a b n : ℕ} → 0 < b → Between a b n → NearestHalfUp a b n
+between-is pos x = record { not-far-above = x .above; not-far-below = omega (arith, x .below); half-up = half-up pos x }
+
+-- It is less than a half below: at a half it would have to be one more than itself.
+less-than-half : {a b n : ℕ} → NearestHalfUp a b n → (2 * a ≡ 2 * (n * b) + b) ⊎ (2 * a < 2 * (n * b) + b) → 2 * a < 2 * (n * b) + b
+less-than-half {a} {b} {n} x (inl half) = absurd (omega (arith, x .half-up n half))
+less-than-half x (inr less) = less
+
+is-between : {a b n : ℕ} → NearestHalfUp a b n → Between a b n
+is-between x = record { above = x .not-far-above; below = less-than-half x (eq-or-lt-of-le (x .not-far-below)) }
+
+pub nearest-only : (a b n : ℕ) → 0 < b → NearestHalfUp a b n → n ≡ nearest a b
+nearest-only a b n pos x = unique (is-between x) (nearest-between a b pos)

@@ -1,0 +1,33 @@
+-- A group's share of the years is a hundredth rounded to the nearest, so the shares of two groups add up to 100, or to 101 where both went up.
+use Prim.Native.Nat.{ℕ, suc, _+_, _*_, _≤_, _<_}
+use native.Mathlib.Nat.{lt-of-mul-lt-mul-left}
+use native.Mathlib.Omega.{arith}
+use mathlib.Core.Path.{_≡_}
+use Rattle.exposure.specs.Totals.{share}
+use Rattle.exposure.specs.Promises.{SharePromise, SharesPromise}
+use Rattle.exposure.proofs.Rounding.{Between, nearest-between, between-is, nearest-only}
+
+pub share-promise : (ED Z : ℕ) → 0 < Z → SharePromise ED Z
+share-promise ED Z pos =
+    record { nearest = between-is pos (nearest-between (100 * ED) Z pos); only = λ n x. nearest-only (100 * ED) Z n pos x }
+
+-- Of two numbers between such bounds, for a and c that make up 100 wholes.
+at-least-100 : {a c b m n : ℕ} → a + c ≡ 100 * b → Between a b m → Between c b n → 100 ≤ m + n
+at-least-100 {a} {c} {b} {m} {n} whole x y =
+    let l : 100 < suc (m + n) = lt-of-mul-lt-mul-left b (omega (arith, whole, x .below, y .below)) in omega arith
+
+at-most-101 : {a c b m n : ℕ} → a + c ≡ 100 * b → 0 < b → Between a b m → Between c b n → m + n ≤ 101
+at-most-101 {a} {c} {b} {m} {n} whole pos x y =
+    let l : m + n < 102 = lt-of-mul-lt-mul-left b (omega (arith, whole, x .above, y .above)) in omega arith
+
+pub shares-promise : (child adult : ℕ) → 0 < child + adult → SharesPromise child adult
+shares-promise child adult pos =
+    let c = nearest-between (100 * child) (child + adult) pos in
+    let a = nearest-between (100 * adult) (child + adult) pos in
+    record { at-least = at-least-100 (omega arith) c a; at-most = at-most-101 (omega arith) pos c a }
+
+-- A part has at most the whole.
+pub share-at-most : (ED Z : ℕ) → ED ≤ Z → 0 < Z → share ED Z ≤ 100
+share-at-most ED Z part pos =
+    let x = nearest-between (100 * ED) Z pos in
+    let l : share ED Z < 101 = lt-of-mul-lt-mul-left Z (omega (arith, x .above)) in omega arith

@@ -1,0 +1,13 @@
+-- A quotient rounded to the nearest whole, halves up.
+use Prim.Native.Nat.{ℕ, suc, _+_, _*_, _/_, _≤_}
+use mathlib.Core.Path.{_≡_}
+
+-- a / b and a half, rounded down.
+unfoldable pub nearest : ℕ → ℕ → ℕ
+nearest a b = (2 * a + b) / (2 * b)
+
+-- What it is for n to be that: twice its distance from a / b, multiplied out, is at most one, and a half goes up.
+pub record NearestHalfUp (a b n : ℕ) : Type 0 where
+  pub not-far-above : 2 * (n * b) ≤ 2 * a + b
+  pub not-far-below : 2 * a ≤ 2 * (n * b) + b
+  pub half-up : (m : ℕ) → 2 * a ≡ 2 * (m * b) + b → n ≡ suc m

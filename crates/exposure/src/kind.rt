@@ -1,0 +1,5 @@
+// What a room is judged on: a risk, or a yearly dose.
+pub enum Kind {
+    Risk,
+    Dose,
+}
