@@ -11,7 +11,7 @@
  *
  * The bytes of a job and of a chain book are described, with an example, in docs/FORMAT.md. A job's exposure is in quarter hours
  * per day, 0 to 96. It used to be in whole hours, 0 to 24: a job written so would be taken for a quarter of its exposure, so it
- * must not be passed.
+ * must not be passed. For dose a group counts by its share of both groups' years, in whole hundredths.
  */
 #ifndef JELMORAND_H
 #define JELMORAND_H

@@ -3,7 +3,7 @@
 use Prim.Native.Nat.{ℕ, suc, _+_, _*_, _/_, _≤_, _<_}
 use native.Mathlib.Nat.{le-antisymm, eq-or-lt-of-le, lt-of-mul-lt-mul-left, div-add-mod, mod-lt}
 use native.Mathlib.Omega.{arith}
-use mathlib.Core.Path.{_≡_}
+use mathlib.Core.Path.{_≡_, ap, _∙_}
 use mathlib.Core.Logic.{_⊎_, inl, inr}
 use Rattle.exposure.specs.Rounding.{nearest, NearestHalfUp}
 
@@ -52,3 +52,9 @@ is-between x = record { above = x .not-far-above; below = less-than-half x (eq-o
 
 pub nearest-only : (a b n : ℕ) → 0 < b → NearestHalfUp a b n → n ≡ nearest a b
 nearest-only a b n pos x = unique (is-between x) (nearest-between a b pos)
+
+-- What divides evenly is not rounded.
+pub unrounded : (n : ℕ) {a b : ℕ} → 0 < b → n * b ≡ a → nearest a b * b ≡ a
+unrounded n {a} {b} pos even =
+    let whole : Between a b n = record { above = omega arith; below = omega arith } in
+    ap (λ q. q * b) (unique (nearest-between a b pos) whole) ∙ even

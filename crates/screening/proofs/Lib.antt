@@ -21,4 +21,5 @@ pub mod SameBytes
 pub mod Answers
 pub mod AnswerByChecks
 pub mod Restated
+pub mod UnroundedShares
 pub mod Promised

@@ -1,5 +1,5 @@
 -- Everything that is promised. Demand 3's half of the factors is proved in balance, the reading's promise in reading, the exposure's in exposure, and the
--- rest in OneDenominator, Soundness, Falling, Level, CommonFactor, Answers, Restated and JobChecks.
+-- rest in OneDenominator, Soundness, Falling, Level, CommonFactor, Answers, Restated, UnroundedShares and JobChecks.
 use Prim.Native.Nat.{ℕ}
 use mathlib.Core.Path.{_≡_, refl}
 use mathlib.Core.Bool.{Bool, true, false, cond}
@@ -21,6 +21,7 @@ use Rattle.screening.proofs.CommonFactor.{common-factor}
 use Rattle.screening.proofs.JobChecks.{reading-checked}
 use Rattle.screening.proofs.Answers.{answer-promise, no-worse-answer}
 use Rattle.screening.proofs.Restated.{whole-hours}
+use Rattle.screening.proofs.UnroundedShares.{unrounded-shares}
 
 pub demand-3 : Demand3
 demand-3 =
@@ -51,6 +52,7 @@ promises =
       common-factor = λ k a b pos common. common-factor k pos a b common;
       exposure = exposure-promises;
       whole-hours = whole-hours;
+      unrounded-shares = unrounded-shares;
       reading = reading-promise;
       amount-grounds = λ amount. whole-grounds (unusable (figure amount)) (ltb maxConcentration (whole amount)) (whole amount);
       reading-grounds = reading-checked;

@@ -5,5 +5,6 @@ pub mod WorkingLevels
 pub mod Screening
 pub mod CommonFactor
 pub mod WholeHours
+pub mod UnroundedShares
 pub mod Promises
 pub mod Private

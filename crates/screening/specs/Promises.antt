@@ -25,6 +25,7 @@ use Rattle.screening.specs.WorkingLevels.{equilibrium}
 use Rattle.screening.specs.Screening.{criterionOf, assessmentAt, alphaAt, answerOf}
 use Rattle.screening.specs.CommonFactor.{CommonFactor, Unchanged}
 use Rattle.screening.specs.WholeHours.{WholeHoursPromise}
+use Rattle.screening.specs.UnroundedShares.{UnroundedPromise}
 use Rattle.screening.specs.declared.job.Answer.{Answer}
 use Rattle.screening.specs.declared.job.Figures.{Figures}
 use Rattle.screening.specs.declared.job.Outcome.{Outcome}
@@ -97,9 +98,12 @@ pub record Promises : Type 0 where
   pub demand3 : Demand3
   -- every weight and B times the same k above 0 leave verdict and level as they were
   pub common-factor : (k : ℕ) (a b : Assessment) → 0 < k → CommonFactor k a b → Unchanged a b
-  -- the exposure's own, and a room in whole hours comes out as it did (document 02, R-1)
+  -- the exposure's own
   pub exposure : ExposurePromises
+  -- a room in whole hours comes out as it did (document 02, R-1)
   pub whole-hours : WholeHoursPromise
+  -- so does yearly dose, where no share is rounded (R-2)
+  pub unrounded-shares : UnroundedPromise
   -- a number is the smallest that is not below the exact value
   pub reading : (amount : Amount) → ReadingPromise amount
   -- and the grounds are those of the list, 7 and 8, of one amount and of a job's reading
