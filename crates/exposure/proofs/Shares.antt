@@ -1,4 +1,4 @@
--- A group's share of the years is a hundredth rounded to the nearest, so the shares of two groups add up to 100, or to 101 where both went up.
+-- A group's share of the years is rounded to the nearest hundredth, so the shares of two groups add up to 100, or to 101 where both went up.
 use Prim.Native.Nat.{ℕ, suc, _+_, _*_, _≤_, _<_}
 use native.Mathlib.Nat.{lt-of-mul-lt-mul-left}
 use native.Mathlib.Omega.{arith}
@@ -11,7 +11,7 @@ pub share-promise : (ED Z : ℕ) → 0 < Z → SharePromise ED Z
 share-promise ED Z pos =
     record { nearest = between-is pos (nearest-between (100 * ED) Z pos); only = λ n x. nearest-only (100 * ED) Z n pos x }
 
--- Of two numbers between such bounds, for a and c that make up 100 wholes.
+-- Of two quotients that add up to 100 before they are rounded.
 at-least-100 : {a c b m n : ℕ} → a + c ≡ 100 * b → Between a b m → Between c b n → 100 ≤ m + n
 at-least-100 {a} {c} {b} {m} {n} whole x y =
     let l : 100 < suc (m + n) = lt-of-mul-lt-mul-left b (omega (arith, whole, x .below, y .below)) in omega arith

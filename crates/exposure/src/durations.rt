@@ -7,8 +7,8 @@ ghost use Prim.Native.Nat.{_+_, _≤_, _<_};
 ghost use Rattle.exposure.specs.Exposure.{exposureOutOfRange, maxYears};
 ghost use Rattle.exposure.specs.Totals.{share, duration, childDuration, adultDuration};
 
-// The shares are hundredths.
-const WHOLE: u64 = 100;
+// The shares of the years are hundredths.
+pub const HUNDREDTHS: u64 = 100;
 
 pub(crate) struct Durations {
     pub child: u64,
@@ -21,7 +21,7 @@ fn share_of(years: u64, total: u64) -> u64
     ensures value { λ r. ⌜ r ≡ share years total ⌝ }
     ensures range { λ r. ⌜ r ≤ 100 ⌝ }
 {
-    (2 * (WHOLE * years) + total) / (2 * total)
+    (2 * (HUNDREDTHS * years) + total) / (2 * total)
 }
 
 // Of one group: its years for risk, its share of them for dose.

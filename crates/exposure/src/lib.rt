@@ -13,5 +13,8 @@ pub use totals::Totals;
 // Ground 6 (`exposureOutOfRange` of specs/Exposure.antt).
 pub use groups::out_of_range;
 
+// What the shares of the years are parts of, for dose.
+pub use durations::HUNDREDTHS;
+
 // X and Y of a kind, of an exposure within the limits (`totalsOf` of specs/Totals.antt).
 pub use totals::totals_of;

@@ -9,6 +9,7 @@ ghost use Rattle.screening.specs.Private.Tabled.{assessmentIn, judgedOn,
 use crate::weighted::weighted_sum;
 use book::COEFFICIENTS;
 use book::MAX_MEMBERS;
+use exposure::HUNDREDTHS;
 use exposure::Kind;
 use wide::at_most;
 use wide::capped_quotient;
@@ -28,9 +29,6 @@ const QUARTER_HOURS_PER_YEAR: u64 = 35_040;
 const RISK_SCALE: u32 = 100_000_000;
 
 const DOSE_SCALE: u32 = 10_000_000;
-
-// Dose counts the years of each group in hundredths of both groups' years.
-const HUNDREDTHS: u64 = 100;
 
 // 2^20: the parent has 2^40 grains.
 const ROOT_OF_GRAINS: u32 = 0x10_0000;
