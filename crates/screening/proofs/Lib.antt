@@ -9,6 +9,7 @@ pub mod Soundness
 pub mod Falling
 pub mod Level
 pub mod CommonFactor
+pub mod Proportion
 -- The sums in limbs, and the arrays of a book.
 pub mod Held
 pub mod Summing

@@ -1,44 +1,37 @@
 -- An exposure in whole hours, restated in quarter hours, has four times its X and Y, and B has the factor 4 too: so verdict and level
 -- are those of the formulas in whole hours.
-use Prim.Native.Nat.{ℕ, _+_, _*_}
+use Prim.Native.Nat.{ℕ, _*_}
 use native.Mathlib.Omega.{arith}
-use mathlib.Core.Path.{_≡_, refl, ap, ap₂, sym, _∙_}
+use mathlib.Core.Path.{_≡_, ap, ap₂, sym, _∙_}
 use mathlib.Core.List.{List}
 use Rattle.book.specs.Fields.{coefficient}
+use Rattle.exposure.specs.Totals.{X, Y}
 use Rattle.exposure.specs.WholeHours.{HoursExposure, inQuarters, hoursX, hoursY}
 use Rattle.exposure.specs.declared.groups.Exposure.{Exposure}
+use Rattle.exposure.specs.declared.kind.Kind.{Kind}
 use Rattle.exposure.proofs.Restated as restated
 use Rattle.screening.specs.Job.{rate, exposureOf, bookOf}
 use Rattle.screening.specs.Verdict.{Assessment, bound, verdictAt, level}
 use Rattle.screening.specs.Screening.{criterionFor, criterionOf, assessmentAt, answerOf}
 use Rattle.screening.specs.WholeHours.{hoursBound, hoursAssessment, hoursAssessmentOf, WholeHoursPromise}
-use Rattle.screening.specs.CommonFactor.{CommonFactor, Unchanged}
+use Rattle.screening.specs.CommonFactor.{Unchanged}
 use Rattle.screening.specs.declared.job.Figures.{Figures}
 use Rattle.screening.specs.declared.job.Outcome.{Outcome}
-use Rattle.exposure.specs.declared.kind.Kind.{Kind}
-use Rattle.screening.proofs.CommonFactor.{common-factor}
+use Rattle.screening.proofs.Proportion.{same-verdicts}
 use Rattle.screening.proofs.Answers.{verdict-is, level-is, concentration-is}
-
-weight-carries : (x y h s : ℕ) {x′ y′ : ℕ} → x′ ≡ 4 * x → y′ ≡ 4 * y → 365 * x′ * h + y′ * s ≡ 4 * (365 * x * h + y * s)
-weight-carries x y h s ex ey = rw (ex, ey) (omega arith)
 
 bound-restated : (kind : Kind) (target : ℕ) → bound kind target ≡ 4 * hoursBound kind target
 bound-restated Kind.Risk target = omega arith
 bound-restated Kind.Dose target = omega arith
 
-module _ (kind : Kind) (e : HoursExposure) (target : ℕ) (book : List ℕ) (coefficient : ℕ → ℕ → ℕ) (v : ℕ) where
-  four-times :
-      CommonFactor 4 (hoursAssessment kind e target book coefficient v) (assessmentAt (criterionFor kind (inQuarters e) target) book coefficient v)
-  four-times =
-      record {
-        count = refl;
-        weight = λ i l. weight-carries (hoursX kind e) (hoursY kind e) _ _ (restated.whole-hours .x kind e) (restated.whole-hours .y kind e);
-        factor = λ i l. refl;
-        bound = bound-restated kind target;
-      }
-
-  judged : Unchanged (hoursAssessment kind e target book coefficient v) (assessmentAt (criterionFor kind (inQuarters e) target) book coefficient v)
-  judged = common-factor 4 (omega arith) _ _ four-times
+judged :
+    (kind : Kind) (e : HoursExposure) (target : ℕ) (book : List ℕ) (coefficient : ℕ → ℕ → ℕ) (v : ℕ) →
+    Unchanged (hoursAssessment kind e target book coefficient v) (assessmentAt (criterionFor kind (inQuarters e) target) book coefficient v)
+judged kind e target book coefficient v =
+    same-verdicts kind (hoursX kind e) (hoursY kind e) (hoursBound kind target) (X kind (inQuarters e)) (Y kind (inQuarters e)) target book coefficient v 1 4 (omega arith) (omega arith)
+    (omega (arith, restated.whole-hours .x kind e))
+    (omega (arith, restated.whole-hours .y kind e))
+    (omega (arith, bound-restated kind target))
 
 module _
     (job : List ℕ) (e : HoursExposure) (figures : Figures) (same : exposureOf job ≡ inQuarters e) (answered : answerOf job .outcome ≡ Outcome.Screened figures)

@@ -13,6 +13,7 @@ use Rattle.book.proofs.TableFields.{table-members, table-divisor, table-coeffic
 use Rattle.balance.specs.Rates.{maxRate}
 use Rattle.balance.specs.Factors.{factorAt, factorList}
 use Rattle.balance.proofs.Promised.{accepted-place, factor-at-most-G}
+use Rattle.exposure.specs.declared.kind.Kind.{Kind}
 use Rattle.screening.specs.Verdict.{inhalation, submersion, boundOf}
 use Rattle.screening.specs.WorkingLevels.{alphaWeight, alphaSum, workingLevels}
 use Rattle.screening.specs.Screening.{assessmentAt, alphaAt, figuresAt, screenedAt}
@@ -22,7 +23,6 @@ use Rattle.screening.specs.declared.job.Answer.{Answer}
 use Rattle.screening.specs.declared.job.Outcome.{Outcome}
 use Rattle.screening.specs.declared.verdict.Criterion.{Criterion}
 use Rattle.screening.specs.declared.verdict.Judgement.{Judgement}
-use Rattle.exposure.specs.declared.kind.Kind.{Kind}
 use Rattle.screening.specs.declared.working.WorkingLevels.{WorkingLevels}
 use Rattle.screening.proofs.Alike.{alpha-same, judged-same}
 use Rattle.screening.proofs.Falling.{alpha-falls}

@@ -13,11 +13,11 @@ use Rattle.screening.specs.JobGrounds.{checkedJob}
 use Rattle.screening.specs.Verdict.{Assessment, kindOf, weightOf, boundOf, verdictAt, level}
 use Rattle.screening.specs.WorkingLevels.{alphaSum, workingLevels}
 use Rattle.exposure.specs.declared.groups.Exposure.{Exposure}
+use Rattle.exposure.specs.declared.kind.Kind.{Kind}
 use Rattle.screening.specs.declared.job.Answer.{Answer}
 use Rattle.screening.specs.declared.job.Figures.{Figures}
 use Rattle.screening.specs.declared.job.Outcome.{Outcome}
 use Rattle.screening.specs.declared.verdict.Criterion.{Criterion}
-use Rattle.exposure.specs.declared.kind.Kind.{Kind}
 
 -- What a room is judged by.
 abbrev pub criterionFor : Kind → Exposure → ℕ → Criterion

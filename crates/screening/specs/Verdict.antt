@@ -4,8 +4,8 @@ use mathlib.Core.Bool.{cond}
 use lib.Dec.{leb, eqb}
 use Rattle.book.specs.Sums.{sumBelow}
 use Rattle.balance.specs.Balance.{G}
-use Rattle.screening.specs.declared.verdict.Criterion.{Criterion}
 use Rattle.exposure.specs.declared.kind.Kind.{Kind}
+use Rattle.screening.specs.declared.verdict.Criterion.{Criterion}
 use Rattle.screening.specs.declared.verdict.Verdict.{Verdict}
 use Rattle.screening.specs.declared.verdict.Verdict.the-variants.{Below, Close, Above}
 

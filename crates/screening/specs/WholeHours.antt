@@ -8,6 +8,7 @@ use Rattle.book.specs.Fields.{members, coefficient}
 use Rattle.balance.specs.Balance.{G}
 use Rattle.balance.specs.Factors.{factorAt}
 use Rattle.exposure.specs.WholeHours.{HoursExposure, inQuarters, hoursX, hoursY}
+use Rattle.exposure.specs.declared.kind.Kind.{Kind}
 use Rattle.screening.specs.Job.{rate, exposureOf, bookOf}
 use Rattle.screening.specs.Verdict.{Assessment, weightOf, verdictAt, level}
 use Rattle.screening.specs.Screening.{criterionFor, criterionOf, assessmentAt, answerOf}
@@ -15,7 +16,6 @@ use Rattle.screening.specs.CommonFactor.{Unchanged}
 use Rattle.screening.specs.declared.job.Figures.{Figures}
 use Rattle.screening.specs.declared.job.Outcome.{Outcome}
 use Rattle.screening.specs.declared.verdict.Criterion.{Criterion}
-use Rattle.exposure.specs.declared.kind.Kind.{Kind}
 
 -- B, for dose with 100 in Z's place.
 abbrev pub hoursBound : Kind → ℕ → ℕ

@@ -2,8 +2,8 @@
 use Prim.Native.Nat.{ℕ, zero, suc}
 use mathlib.Core.Path.{_≡_, refl, ap, _∙_}
 use borrow.Author.Needs.{needs}
-use Rattle.screening.specs.Verdict.{kindOf}
 use Rattle.exposure.specs.declared.kind.Kind.{Kind}
+use Rattle.screening.specs.Verdict.{kindOf}
 use Rattle.screening.proofs.fields.kind_of.Statement.{statement}
 use Rattle.screening.proofs.fields.kind_of.Tie as tie
 
