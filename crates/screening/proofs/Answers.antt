@@ -1,6 +1,6 @@
 -- What an answer with figures says: the checks passed, and the figures are the definition's. So its verdict keeps demand 3's promise,
 -- and of two jobs that differ in the rate alone the one with the higher rate has no worse verdict.
-use Prim.Native.Nat.{ℕ, _+_, _-_, _≤_}
+use Prim.Native.Nat.{ℕ, _+_, _-_, _≤_, _<_}
 use native.Mathlib.Omega.{arith}
 use mathlib.Core.Path.{_≡_, refl, ap, ap₂, sym, subst, _∙_}
 use mathlib.Core.List.{List}
@@ -9,10 +9,13 @@ use lib.Seq.{getD-drop, drop-drop}
 use Rattle.refusals.specs.declared.Checked.{Checked}
 use Rattle.reading.specs.Reading.{concentration}
 use Rattle.book.specs.Fields.{coefficient}
-use Rattle.screening.specs.Job.{rate, rateLength, concentrationOf, bookOf}
+use Rattle.exposure.specs.Totals.{Z}
+use Rattle.exposure.proofs.WithinLimits.{child-years}
+use Rattle.screening.specs.Job.{rate, rateLength, exposureOf, concentrationOf, bookOf}
 use Rattle.screening.specs.JobGrounds.{checkedJob}
-use Rattle.screening.specs.Verdict.{verdictAt, badness, level}
+use Rattle.screening.specs.Verdict.{Assessment, verdictAt, badness, level}
 use Rattle.screening.specs.Screening.{criterionOf, assessmentAt, figuresAt, answerFor, answerOf}
+use Rattle.screening.specs.CommonFactor.{Unchanged}
 use Rattle.screening.specs.Promises.{AnswerPromise}
 use Rattle.screening.specs.declared.job.Answer.{Answer}
 use Rattle.screening.specs.declared.job.Figures.{Figures}
@@ -55,6 +58,20 @@ module _ (job : List ℕ) (figures : Figures) (answered : answerOf job .outcome 
   pub concentration-is : figures .concentration ≡ concentrationOf job
   unfolding figuresAt
   concentration-is = ap (λ f. f .concentration) (screened .1)
+
+  -- The verdict and the level are those of every assessment that comes out as the job's.
+  pub as-judged :
+      (a : Assessment) → Unchanged a (assessmentAt (criterionOf job) (bookOf job) (coefficient (bookOf job)) (rate job)) →
+      (figures .verdict ≡ verdictAt a (figures .concentration)) × (figures .level ≡ level a)
+  as-judged a same = (
+    verdict-is
+        ∙ ap (judged (criterionOf job) (bookOf job) (rate job)) (sym concentration-is)
+        ∙ same .verdict (figures .concentration),
+    level-is ∙ same .level,
+  )
+
+  pub some-years : 0 < Z (exposureOf job)
+  some-years = child-years (exposureOf job) (passes .fields .exposure) .2
 
 pub answer-promise : (job : List ℕ) → AnswerPromise job (answerOf job)
 answer-promise job figures answered =

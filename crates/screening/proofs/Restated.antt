@@ -2,23 +2,22 @@
 -- are those of the formulas in whole hours.
 use Prim.Native.Nat.{ℕ, _*_}
 use native.Mathlib.Omega.{arith}
-use mathlib.Core.Path.{_≡_, ap, ap₂, sym, _∙_}
+use mathlib.Core.Path.{_≡_, sym, subst}
 use mathlib.Core.List.{List}
 use Rattle.book.specs.Fields.{coefficient}
 use Rattle.exposure.specs.Totals.{X, Y}
 use Rattle.exposure.specs.WholeHours.{HoursExposure, inQuarters, hoursX, hoursY}
-use Rattle.exposure.specs.declared.groups.Exposure.{Exposure}
 use Rattle.exposure.specs.declared.kind.Kind.{Kind}
 use Rattle.exposure.proofs.Restated as restated
 use Rattle.screening.specs.Job.{rate, exposureOf, bookOf}
-use Rattle.screening.specs.Verdict.{Assessment, bound, verdictAt, level}
+use Rattle.screening.specs.Verdict.{bound, verdictAt, level}
 use Rattle.screening.specs.Screening.{criterionFor, criterionOf, assessmentAt, answerOf}
 use Rattle.screening.specs.WholeHours.{hoursBound, hoursAssessment, hoursAssessmentOf, WholeHoursPromise}
 use Rattle.screening.specs.CommonFactor.{Unchanged}
 use Rattle.screening.specs.declared.job.Figures.{Figures}
 use Rattle.screening.specs.declared.job.Outcome.{Outcome}
 use Rattle.screening.proofs.Proportion.{same-verdicts}
-use Rattle.screening.proofs.Answers.{verdict-is, level-is, concentration-is}
+use Rattle.screening.proofs.Answers.{as-judged}
 
 bound-restated : (kind : Kind) (target : ℕ) → bound kind target ≡ 4 * hoursBound kind target
 bound-restated Kind.Risk target = omega arith
@@ -33,27 +32,17 @@ judged kind e target book coefficient v =
     (omega (arith, restated.whole-hours .y kind e))
     (omega (arith, bound-restated kind target))
 
-module _
-    (job : List ℕ) (e : HoursExposure) (figures : Figures) (same : exposureOf job ≡ inQuarters e) (answered : answerOf job .outcome ≡ Outcome.Screened figures)
-  where
-    abbrev assessed : Exposure → Assessment
-    assessed x = assessmentAt (criterionFor (criterionOf job .kind) x (criterionOf job .target)) (bookOf job) (coefficient (bookOf job)) (rate job)
-
-    unchanged : Unchanged (hoursAssessmentOf job e) (assessed (inQuarters e))
-    unchanged = judged (criterionOf job .kind) e (criterionOf job .target) (bookOf job) (coefficient (bookOf job)) (rate job)
-
-    verdict-restated : figures .verdict ≡ verdictAt (hoursAssessmentOf job e) (figures .concentration)
-    verdict-restated =
-        verdict-is job figures answered
-        ∙ ap₂ (λ x C. verdictAt (assessed x) C) same (sym (concentration-is job figures answered))
-        ∙ unchanged .verdict (figures .concentration)
-
-    level-restated : figures .level ≡ level (hoursAssessmentOf job e)
-    level-restated = level-is job figures answered ∙ ap (λ x. level (assessed x)) same ∙ unchanged .level
+answer :
+    (job : List ℕ) (e : HoursExposure) (figures : Figures) → exposureOf job ≡ inQuarters e → answerOf job .outcome ≡ Outcome.Screened figures →
+    (figures .verdict ≡ verdictAt (hoursAssessmentOf job e) (figures .concentration)) × (figures .level ≡ level (hoursAssessmentOf job e))
+answer job e figures same answered =
+    let book = bookOf job in
+    let by = criterionOf job in
+    as-judged job figures answered (hoursAssessmentOf job e)
+    (subst
+    (λ x. Unchanged (hoursAssessmentOf job e) (assessmentAt (criterionFor (by .kind) x (by .target)) book (coefficient book) (rate job)))
+    (sym same)
+    (judged (by .kind) e (by .target) book (coefficient book) (rate job)))
 
 pub whole-hours : WholeHoursPromise
-whole-hours =
-    record {
-      judged = judged;
-      answer = λ job e figures same answered. (verdict-restated job e figures same answered, level-restated job e figures same answered);
-    }
+whole-hours = record { judged = judged; answer = answer }
