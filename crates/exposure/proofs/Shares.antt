@@ -4,12 +4,8 @@ use native.Mathlib.Nat.{lt-of-mul-lt-mul-left}
 use native.Mathlib.Omega.{arith}
 use mathlib.Core.Path.{_≡_}
 use Rattle.exposure.specs.Totals.{share}
-use Rattle.exposure.specs.Promises.{SharePromise, SharesPromise}
-use Rattle.exposure.proofs.Rounding.{Between, nearest-between, between-is, nearest-only}
-
-pub share-promise : (ED Z : ℕ) → 0 < Z → SharePromise ED Z
-share-promise ED Z pos =
-    record { nearest = between-is pos (nearest-between (100 * ED) Z pos); only = λ n x. nearest-only (100 * ED) Z n pos x }
+use Rattle.exposure.specs.Promises.{SharesPromise}
+use Rattle.rounding.proofs.Between.{Between, nearest-between}
 
 -- Of two quotients that add up to 100 before they are rounded.
 at-least-100 : {a c b m n : ℕ} → a + c ≡ 100 * b → Between a b m → Between c b n → 100 ≤ m + n

@@ -1,4 +1,3 @@
-pub mod Rounding
 pub mod Totals
 pub mod Exposure
 pub mod WholeHours

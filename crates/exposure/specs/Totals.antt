@@ -1,6 +1,6 @@
 -- X and Y of a kind, over both groups (document 01, "Verdict"; for dose document 02, R-2).
 use Prim.Native.Nat.{ℕ, _+_, _*_}
-use Rattle.exposure.specs.Rounding.{nearest}
+use Rattle.rounding.specs.Nearest.{nearest}
 use Rattle.exposure.specs.declared.groups.Group.{Group}
 use Rattle.exposure.specs.declared.groups.Exposure.{Exposure}
 use Rattle.exposure.specs.declared.kind.Kind.{Kind}

@@ -1,6 +1,7 @@
 // How long each group is in the room, in years for risk and in hundredths of both groups' years for dose.
 use crate::groups::Exposure;
 use crate::kind::Kind;
+use rounding::nearest;
 ghost use mathlib.Core.Path.{_≡_};
 ghost use mathlib.Core.Bool.{false};
 ghost use Prim.Native.Nat.{_+_, _≤_, _<_};
@@ -21,7 +22,7 @@ fn share_of(years: u64, total: u64) -> u64
     ensures value { λ r. ⌜ r ≡ share years total ⌝ }
     ensures range { λ r. ⌜ r ≤ 100 ⌝ }
 {
-    (2 * (HUNDREDTHS * years) + total) / (2 * total)
+    nearest(HUNDREDTHS * years, total)
 }
 
 // Of one group: its years for risk, its share of them for dose.

@@ -16,7 +16,7 @@ use Rattle.balance.specs.Factors.{factorAnswer, factorList, answerNumber}
 use Rattle.reading.specs.Reading.{amountOf, mediumOf, whole, wholeAnswer, readingUnusable, concentrationTooHigh, intakeAnswer}
 use Rattle.reading.specs.declared.amounts.Intake.{Intake}
 use Rattle.reading.specs.declared.amounts.Whole.{Whole}
-use Rattle.exposure.specs.Rounding.{nearest}
+use Rattle.rounding.specs.Nearest.{nearest}
 use Rattle.exposure.specs.Totals.{X, Y}
 use Rattle.exposure.specs.Exposure.{residential, worker, exposureOutOfRange}
 use Rattle.screening.specs.JobGrounds.{codeUnknown, attenuationOutOfRange}

@@ -7,7 +7,7 @@ use Rattle.book.specs.Fields.{coefficient}
 use Rattle.exposure.specs.Totals.{Z, X, Y}
 use Rattle.exposure.specs.declared.groups.Exposure.{Exposure}
 use Rattle.exposure.specs.declared.kind.Kind.{Kind}
-use Rattle.exposure.proofs.Rounding.{unrounded}
+use Rattle.rounding.proofs.Between.{unrounded}
 use Rattle.screening.specs.Job.{rate, kind, target, exposureOf, bookOf}
 use Rattle.screening.specs.Verdict.{kindOf, verdictAt, level}
 use Rattle.screening.specs.Screening.{criterionFor, assessmentAt, answerOf}

@@ -1,0 +1,2 @@
+-- The laws of a quotient rounded to the nearest whole.
+pub mod Between
