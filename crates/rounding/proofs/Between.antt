@@ -35,6 +35,14 @@ at-most-another {a} {b} {m} {n} x y =
 pub unique : {a b m n : ℕ} → Between a b m → Between a b n → m ≡ n
 unique x y = le-antisymm (at-most-another x y) (at-most-another y x)
 
+-- A larger number has no smaller quotient.
+pub nearest-rises : {a c : ℕ} (b : ℕ) → 0 < b → a ≤ c → nearest a b ≤ nearest c b
+nearest-rises {a} {c} b pos more =
+    let l : nearest a b < suc (nearest c b) =
+    lt-of-mul-lt-mul-left b (omega (arith, nearest-between a b pos .above, nearest-between c b pos .below))
+    in
+    omega arith
+
 -- A half is between the two wholes next to it, and the upper of them is the one.
 half-up : {a b n : ℕ} → 0 < b → Between a b n → (m : ℕ) → 2 * a ≡ 2 * (m * b) + b → n ≡ suc m
 half-up {a} {b} pos x m half = unique x (record { above = omega arith; below = omega arith })

@@ -1,0 +1,3 @@
+pub mod Form
+pub mod Entry
+pub mod Promises
