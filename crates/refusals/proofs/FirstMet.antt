@@ -28,6 +28,13 @@ pub choice :
     r ≡ cond met (Refused refusal) later → met ≡ condition → later ≡ rest → r ≡ cond condition (Refused refusal) rest
 choice refusal e m l = cc
 
+-- What checks find that are made in this order: one, those of a list, and later ones.
+pub in-order :
+    (first : Refusal) (high : Bool) (middle later : List Ground) {met : Bool} {r found between last : Checked} →
+    r ≡ cond met (Refused first) found → met ≡ high → found ≡ orElse between last → between ≡ firstMet middle → last ≡ firstMet later →
+    r ≡ cond high (Refused first) (firstMet (middle ++ later))
+in-order first high middle later e m f b l = rw (first-of-both middle later) (cc)
+
 -- One ground is not met, and the rest pass.
 pub not-met : (met : Bool) (refusal : Refusal) (rest : Checked) → cond met (Refused refusal) rest ≡ Passed → (met ≡ false) × (rest ≡ Passed)
 not-met true refusal rest e = absurd (let z : _≡_ {A = ℕ} 0 1 = cc in omega arith)

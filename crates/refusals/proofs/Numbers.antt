@@ -24,3 +24,5 @@ refusal-below-32 Refusal.FeedsMisplaced = omega arith
 refusal-below-32 Refusal.FeedNotFromLower = omega arith
 refusal-below-32 Refusal.SharesOutTooHigh = omega arith
 refusal-below-32 Refusal.ListTooShort = omega arith
+refusal-below-32 Refusal.RateCountOutOfRange = omega arith
+refusal-below-32 Refusal.BufferTooShort = omega arith

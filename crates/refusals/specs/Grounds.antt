@@ -6,7 +6,7 @@ use Rattle.refusals.specs.declared.Refusal.{Refusal}
 use Rattle.refusals.specs.declared.Checked.{Checked}
 use Rattle.refusals.specs.declared.Checked.the-variants.{Passed, Refused}
 
--- Document 01's number of each refusal.
+-- The number of each refusal: 1 to 19 are document 01's, later ones document 02's.
 abbrev pub refusalNumber : Refusal → ℕ
 refusalNumber Refusal.JobTooShort = 1
 refusalNumber Refusal.CodeUnknown = 2
@@ -27,6 +27,8 @@ refusalNumber Refusal.FeedsMisplaced = 16
 refusalNumber Refusal.FeedNotFromLower = 17
 refusalNumber Refusal.SharesOutTooHigh = 18
 refusalNumber Refusal.ListTooShort = 19
+refusalNumber Refusal.RateCountOutOfRange = 20
+refusalNumber Refusal.BufferTooShort = 21
 
 pub record Ground : Type 0 where
   pub refusal : Refusal

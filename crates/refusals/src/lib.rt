@@ -1,4 +1,4 @@
-// The grounds for refusal of document 01, one list for every call, and the first that is met.
+// The grounds for refusal of documents 01 and 02, one list for every call, and the first that is met.
 mod number;
 
 pub use number::refusal_number;
@@ -28,6 +28,8 @@ pub enum Refusal {
     FeedNotFromLower,
     SharesOutTooHigh,
     ListTooShort,
+    RateCountOutOfRange,
+    BufferTooShort,
 }
 
 // What checks find.

@@ -1,4 +1,4 @@
-// Document 01's numbers of the grounds.
+// The numbers of the grounds: 1 to 19 are document 01's, later ones document 02's.
 use super::Refusal;
 ghost use mathlib.Core.Path.{_≡_};
 ghost use Rattle.refusals.specs.Grounds.{refusalNumber};
@@ -26,5 +26,7 @@ pub fn refusal_number(refusal: Refusal) -> u64
         Refusal::FeedNotFromLower => 17,
         Refusal::SharesOutTooHigh => 18,
         Refusal::ListTooShort => 19,
+        Refusal::RateCountOutOfRange => 20,
+        Refusal::BufferTooShort => 21,
     }
 }

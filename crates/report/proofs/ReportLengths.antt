@@ -45,7 +45,7 @@ figures-at-most figures =
 
 pub lines-at-most : (outcome : Outcome) (factors : List ℕ) → length factors ≤ maxMembers → length (outcomeLines outcome factors) ≤ reportRoom
 lines-at-most (Outcome.Screened figures) factors few =
-    let listed = each-at-most factorLine factorLineRoom factor-line-at-most 0 factors in
+    let listed = each-at-most factorLine (λ _. Unit {0}) factorLineRoom (λ k x _. factor-line-at-most k x) 0 factors (λ _ _. tt) in
     let both = length-append (factorLines factors) (figureLines figures) in
     omega (arith, figures-at-most figures)
 lines-at-most (Outcome.Refused refusal) factors few = simp length-append (omega (arith, decimal-at-most (refusalNumber refusal)))

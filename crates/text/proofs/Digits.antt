@@ -45,10 +45,18 @@ at-most-one-more :
 at-most-one-more m a b front h true = omega arith
 at-most-one-more m a b front h false = simp length-append (omega arith)
 
-up-to-at-most : (m n : ℕ) → length (decimalUpTo m n) ≤ suc m
-up-to-at-most zero n = omega arith
-up-to-at-most (suc m) n = at-most-one-more m (48 + n) (48 + n % 10) (decimalUpTo m (n / 10)) (up-to-at-most m (n / 10)) (ltb n 10)
+-- A number below a power of ten has no more digits than that has zeros; nor has any more digits than the definition allows for.
+up-to-at-most : (m k n : ℕ) → (k < m → n < 10 ^ suc k) → length (decimalUpTo m n) ≤ suc k
+up-to-at-most zero k n h = omega arith
+up-to-at-most (suc m) zero n h = rw (lt-ltb n 10 (omega (arith, h (omega arith)))) (omega arith)
+up-to-at-most (suc m) (suc k) n h =
+    let below : k < m → n / 10 < 10 ^ suc k = λ l. omega (arith, h (omega arith), pow-suc 10 (suc k)) in
+    at-most-one-more k (48 + n) (48 + n % 10) (decimalUpTo m (n / 10)) (up-to-at-most m k (n / 10) below) (ltb n 10)
 
 pub decimal-at-most : (n : ℕ) → length (decimal n) ≤ mostDigits
 unfolding decimal
-decimal-at-most n = up-to-at-most 19 n
+decimal-at-most n = up-to-at-most 19 19 n (λ l. absurd (omega arith))
+
+pub decimal-below : (k n : ℕ) → n < 10 ^ suc k → length (decimal n) ≤ suc k
+unfolding decimal
+decimal-below k n h = up-to-at-most 19 k n (λ _. h)

@@ -36,13 +36,24 @@ each-within piece items i h =
     let more = each-more piece items i h in
     omega (arith, simp length-append at (ap length whole), simp length-append at (ap length more))
 
+-- Of items that are all of a kind whose pieces are at most so long.
 pub each-at-most :
-    (piece : ℕ → ℕ → List ℕ) (most : ℕ) → ((k x : ℕ) → length (piece k x) ≤ most) → (k : ℕ) (items : List ℕ) →
-    length (each piece k items) ≤ most * length items
-each-at-most piece most h k [] = omega arith
-each-at-most piece most h k (x ∷ xs) =
-    let rest = each-at-most piece most h (suc k) xs in
+    (piece : ℕ → ℕ → List ℕ) (Of : ℕ → Type 0) (most : ℕ) → ((k x : ℕ) → Of x → length (piece k x) ≤ most) → (k : ℕ) (items : List ℕ) →
+    ((i : ℕ) → i < length items → Of (getD items i 0)) → length (each piece k items) ≤ most * length items
+each-at-most piece Of most h k [] all = omega arith
+each-at-most piece Of most h k (x ∷ xs) all =
+    let rest = each-at-most piece Of most h (suc k) xs (λ i l. all (suc i) (omega arith)) in
     let more : most * length (x ∷ xs) ≡ most * length xs + most = mul-suc most (length xs) in
+    rw length-append (omega (arith, h k x (all 0 (omega arith))))
+
+-- Of pieces that are all as long.
+pub each-as-long :
+    (piece : ℕ → ℕ → List ℕ) (size : ℕ) → ((k x : ℕ) → length (piece k x) ≡ size) → (k : ℕ) (items : List ℕ) →
+    length (each piece k items) ≡ size * length items
+each-as-long piece size h k [] = omega arith
+each-as-long piece size h k (x ∷ xs) =
+    let rest = each-as-long piece size h (suc k) xs in
+    let more : size * length (x ∷ xs) ≡ size * length xs + size = mul-suc size (length xs) in
     rw length-append (omega (arith, h k x))
 
 pub record Writing (piece : ℕ → ℕ → List ℕ) (items list : List ℕ) (start i : ℕ) (now : List ℕ) (at : ℕ) : Type 0 where
