@@ -9,6 +9,8 @@ use Rattle.balance.specs.Factors.{factorAnswer}
 use Rattle.balance.specs.declared.FactorAnswer.{FactorAnswer}
 use Rattle.text.specs.Lent.{lengthWritten}
 use Rattle.report.specs.Report.{reportOf}
+use Rattle.tables.specs.Answers.{tableAnswer}
+use Rattle.tables.specs.declared.TableAnswer.{TableAnswer}
 
 abbrev pub refusedAs : Refusal → ℤ
 refusedAs refusal = negℤ (pos (refusalNumber refusal))
@@ -26,3 +28,12 @@ factorsNumber v book room = numberOf (factorAnswer v book room)
 -- or 0 where there is no room for it.
 abbrev pub reportNumber : List ℕ → ℕ → ℤ
 reportNumber job room = pos (lengthWritten (reportOf job) room)
+
+-- The length of the table, or the refusal.
+abbrev pub tabledAs : TableAnswer → ℤ
+tabledAs (TableAnswer.Written n) = pos n
+tabledAs (TableAnswer.Refused refusal) = refusedAs refusal
+
+-- What the table call answers for a list of rates, a book and so many places.
+abbrev pub tableNumber : List ℕ → List ℕ → ℕ → ℤ
+tableNumber rates book room = tabledAs (tableAnswer rates book room)

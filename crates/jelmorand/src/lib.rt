@@ -3,12 +3,15 @@
 use balance::FactorAnswer;
 use refusals::refusal_number;
 use report::report_job;
+use tables::TableAnswer;
+use tables::tabulate;
 ghost use mathlib.Core.Path.{_≡_};
 ghost use lib.ListN.{length};
 ghost use Rattle.balance.specs.Factors.{factorList};
 ghost use Rattle.report.specs.Report.{reportOf};
 ghost use Rattle.text.specs.Lent.{bytesWritten};
-ghost use Rattle.jelmorand.specs.Answers.{factorsNumber, reportNumber};
+ghost use Rattle.tables.specs.Answers.{tableBuffer};
+ghost use Rattle.jelmorand.specs.Answers.{factorsNumber, reportNumber, tableNumber};
 
 // The factors of every member at rate `v`, into the first places of `out`; a refusal leaves `out` as it was.
 #[no_mangle]
@@ -30,4 +33,17 @@ pub extern "C" fn jelmorand_report(job: &[u8], out: &mut [u8]) -> i64
     ensures written { λ _. ⌜ now (out .exit) ≡ bytesWritten (reportOf (now (job .entry))) (now (out .entry)) ⌝ }
 {
     report_job(job, out) as i64
+}
+
+// The table of a book at every rate of a list, to the start of `out`, and its length; a refusal leaves `out` as it was.
+#[no_mangle]
+pub extern "C" fn jelmorand_table(rates: &[u32], book: &[u8], out: &mut [u8]) -> i64
+    ensures answered { λ r. ⌜ r ≡ tableNumber (now (rates .entry)) (now (book .entry)) (length (now (out .entry))) ⌝ }
+    ensures written { λ _. ⌜ now (out .exit) ≡ tableBuffer (now (rates .entry)) (now (book .entry)) (now (out .entry)) ⌝ }
+{
+    let answer = tabulate(rates, book, out);
+    match answer {
+        TableAnswer::Written(length) => length as i64,
+        TableAnswer::Refused(refusal) => -(refusal_number(refusal) as i64),
+    }
 }
