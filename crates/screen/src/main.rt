@@ -27,31 +27,12 @@ fn screen_input() {
 }
 
 fn screen_file() {
-    let mut path = io::buffer();
-    let length = os::arg(1, &mut path);
-    if os::errno() != 0 {
-        os::fail(b"screen: the file's name");
-        return;
-    }
-    let file = os::open_read(&path[..length]);
-    if file < 0 {
-        os::fail(&path[..length]);
-        return;
-    }
-    screen_open(file, &path[..length]);
-    libc::close(file);
-}
-
-// A read that fails, as that of a folder does, looks like the end of the file; one read more tells the two apart.
-fn screen_open(file: i32, path: &[u8]) {
     let mut input = [0u8; ENOUGH];
-    let n = io::read_full(file, &mut input);
-    let mut more = [0u8; 1];
-    if libc::read(file, &mut more) < 0 {
-        os::fail(path);
-        return;
+    let job = files::read_argument(1, b"screen: the file's name", &mut input);
+    if job.read {
+        let n = job.length;
+        write_report(&input[..n]);
     }
-    write_report(&input[..n]);
 }
 
 fn write_report(job: &[u8]) {
