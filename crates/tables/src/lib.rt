@@ -3,6 +3,7 @@ mod checks;
 mod lengths;
 mod limits;
 mod lines;
+mod source_rates;
 
 use checks::check_table;
 use lengths::table_length;
@@ -11,6 +12,7 @@ pub use limits::TABLE_ROOM;
 use lines::put_rate_lines;
 use refusals::Checked;
 use refusals::Refusal;
+pub use source_rates::SOURCE_RATES;
 ghost use mathlib.Core.Path.{_≡_};
 ghost use lib.ListN.{length};
 ghost use Rattle.text.specs.Lent.{bytesWritten};
