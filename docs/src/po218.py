@@ -5,48 +5,18 @@
 """
 
 import pathlib
-import re
 import sys
 
 import reference as ref
 from packing import pack_book, pack_feed, pack_member
 from plain_help import answer_help
-
-HEAD = "**Table A-3: Radon Activity Equilibrium Factors"
-END = "**APPENDIX B."
-PRINTED = re.compile(r"\d\.\d{3}E[+-]\d\d\Z")
-
-
-def hundredths(rate):
-    """'0.18' is 18, '0.1' is 10, '900' is 90,000."""
-    exact = ref.Fraction(rate) * 100
-    assert exact.denominator == 1
-    return exact.numerator
+from source_tables import read_table
 
 
 def column(text):
-    """(rate, printed factor) of each row; two rows stand in bold, and the head is printed twice."""
-    start = text.index(HEAD)
-    rows = []
-    for line in text[start : text.index(END, start)].splitlines():
-        cells = [cell.replace("<b>", "").replace("</b>", "") for cell in line.split("\t")]
-        if len(cells) == 9 and cells[1] == "1.000E+00":
-            assert PRINTED.match(cells[2])
-            rows.append((hundredths(cells[0]), cells[2]))
-    return rows
-
-
-def as_printed(number):
-    """A fraction of 1 to four significant digits, rounded to nearest, in the table's form."""
-    exponent = 0
-    while number * 10**-exponent < 1:
-        exponent -= 1
-    digits = number * 10 ** (3 - exponent)
-    assert digits % 1 != ref.Fraction(1, 2), "no ties in this column"
-    whole = (2 * digits.numerator + digits.denominator) // (2 * digits.denominator)
-    if whole == 10_000:
-        whole, exponent = 1_000, exponent + 1
-    return f"{whole // 1000}.{whole % 1000:03d}E{'-' if exponent < 0 else '+'}{abs(exponent):02d}"
+    """(rate, printed factor) of each row."""
+    names, rows = read_table(text, "radon")
+    return [(rate, factors[names.index("Po-218")]) for rate, factors in rows]
 
 
 def compare(rows):
@@ -55,7 +25,7 @@ def compare(rows):
     differing = []
     for rate, printed in rows:
         factor = ref.factor_call(rate, book, 2)[1]
-        ours = as_printed(ref.Fraction(factor, ref.G))
+        ours = ref.entry(factor)
         if ours != printed:
             differing.append((rate, printed, ours, factor / ref.G))
     return differing

@@ -1,7 +1,7 @@
-"""Documents 01 and 02 (R-1, R-2) in exact whole numbers and fractions: the check from outside.
+"""Documents 01 and 02 (R-1 to R-3) in exact whole numbers and fractions: the check from outside.
 
-It follows document 01's order and words, with exposure in quarter hours as R-1 of document 02 has it
-and with R-2's shares of the years for dose, and has nothing in common with the proved program.
+It follows document 01's order and words, with exposure in quarter hours as R-1 of document 02 has it,
+with R-2's shares of the years for dose and with R-3's tables, and has nothing in common with the proved program.
 A job on standard input gives the text of `screen` on standard output;
 with --check it also asserts, on that job, what demand 3 promises.
 
@@ -304,6 +304,48 @@ def factor_call(v, book_bytes, room):
     except Refused as refusal:
         return refusal.number
     return reported_factors(v, book)
+
+
+# ---- Tables for the binder (R-3) -----------------------------------------------------------------
+
+
+def entry(x):
+    """A factor of x grains, 0 to G, in nine characters: its share of G, rounded to the nearest, halves up."""
+    if x == 0:
+        return "0.000E+00"
+    share = Fraction(x, G)
+    places = 0  # the first digit counts times 10^-places
+    while share < Fraction(1, 10**places):
+        places += 1
+    thousandths = floor(share * 10**places * 1_000 + Fraction(1, 2))
+    if thousandths == 10_000:  # rounded up to ten: 1.000, one place higher
+        thousandths, places = 1_000, places - 1
+    sign = "+" if places == 0 else "-"
+    return f"{thousandths // 1_000}.{thousandths % 1_000:03d}E{sign}{places:02d}"
+
+
+def table_line(v, book):
+    """The rate in hundredths, then each member's reported factor."""
+    words = [str(v)] + [entry(x) for x in reported_factors(v, book)]
+    return " ".join(words) + "\n"
+
+
+def table_text(rates, book):
+    return "".join(table_line(v, book) for v in rates)
+
+
+def table_call(rates, book_bytes, room):
+    """The text that begins the lent buffer of `room` bytes, or the number of the refusal: checks 3, 9 to 18, 20, 21."""
+    try:
+        for v in rates:
+            check_rate(v)
+        book = read_book(book_bytes)
+        refuse_if(not 1 <= len(rates) <= 200, 20)
+        text = table_text(rates, book)
+        refuse_if(len(text) > room, 21)
+    except Refused as refusal:
+        return refusal.number
+    return text
 
 
 # ---- The program `screen` -----------------------------------------------------------------------

@@ -209,13 +209,19 @@ def read_cases(path):
     return jobs
 
 
-def answers(source, jobs):
-    """The texts of a reference with the given source; a crash counts as a text of its own."""
+def reference_from(source):
+    """The reference with the given source."""
     module = types.ModuleType("reference_under_test")
     exec(compile(source, "reference_under_test", "exec"), module.__dict__)
+    return module
+
+
+def answers(source, jobs):
+    """The texts of a reference with the given source; a crash counts as a text of its own."""
+    answer = reference_from(source).answer
     for data in jobs:
         try:
-            yield module.answer(data)
+            yield answer(data)
         except Exception as error:
             yield repr(error)
 

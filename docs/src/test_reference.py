@@ -1,12 +1,15 @@
 """Every row of document 01, restated in quarter hours and with the dose of document 02 (R-1, R-2), and its worked output,
 against the reference; R-2's share over every accepted pair of years;
-and that a job in whole hours, restated in quarters, keeps its verdict, its level and its refusal.
+that a job in whole hours, restated in quarters, keeps its verdict, its level and its refusal;
+and R-3's nine characters of a factor against a search through everything that can be printed.
 
     test_reference.py
 """
 
+import bisect
 import itertools
 import math
+import re
 import struct
 
 import make_cases
@@ -282,6 +285,82 @@ def test_refusal_unchanged():
             assert (text == "refused 6\n") == refused_in_hours(groups) == (ET > 24), groups
             refused += text.startswith("refused")
     assert refused == 3 * 6  # 25 to 30 hours
+
+
+# ---- Entries of a table (R-3), against all that can be printed -----------------------------------
+
+# Every d.dddE-ee and d.dddE+00 with first digit 1 to 9 and an exponent down to -15, by its value times 10^18, in rising order.
+FORMS = {d * 10 ** (15 - e): f"{d // 1000}.{d % 1000:03d}E{'-' if e else '+'}{e:02d}"
+         for e in range(15, -1, -1) for d in range(1000, 10_000)}
+VALUES = list(FORMS)
+NINE = re.compile(r"[1-9]\.\d{3}E(\+00|-(0[1-9]|[1-9]\d))|0\.000E\+00")
+
+
+def nearest(x):
+    """The printable numbers nearest to x / G, x above 0: one, or the two that it stands half way between. None is nearer than the
+    last one below x / G and the first one not below it."""
+    place = bisect.bisect_left(VALUES, ref.rounded_up(x * 10**18, G))
+    distance = {value: abs(value * G - x * 10**18) for value in VALUES[place - 1 : place + 1]}
+    least = min(distance.values())
+    return [value for value in distance if distance[value] == least]
+
+
+def halves():
+    """Every factor that is half way between two neighbours of all that can be printed."""
+    middles = [ref.Fraction((low + high) * G, 2 * 10**18) for low, high in itertools.pairwise(VALUES)]
+    return [int(x) for x in middles if x.denominator == 1 and x <= G]
+
+
+def check_entries(numbers):
+    """The nearest, and the higher of two; nine characters; and never falling where the factor rises."""
+    last = 0
+    for x in sorted(numbers):
+        entry = ref.entry(x)
+        assert len(entry) == 9 and NINE.fullmatch(entry), (x, entry)
+        value = nearest(x)[-1] if x > 0 else 0
+        assert entry == (FORMS[value] if x > 0 else "0.000E+00"), (x, entry)
+        assert last <= value
+        last = value
+
+
+def test_forms():
+    """All different and in order, so that a number has one form; and one form fits each factor but the 18 halves."""
+    assert len(VALUES) == 16 * 9_000 and VALUES == sorted(VALUES)
+    found = halves()
+    assert found == [G // 128, G // 64, 3 * G // 64, 5 * G // 64] + [k * G // 32 for k in range(5, 32, 2)]
+    for x in found:
+        low, high = nearest(x)
+        assert ref.entry(x) == FORMS[high] == ref.entry(x + 1) and ref.entry(x - 1) == FORMS[low]
+
+
+def test_entry_at_both_ends():
+    check_entries(range(20_001))
+    check_entries(range(G - 20_000, G + 1))
+
+
+def test_entry_at_boundaries():
+    """About each power of ten, where the exponent changes before it, the next entry after it, and each half."""
+    shares = [ref.Fraction(part, 100_000 * 10**e) for e in range(14) for part in (99_985, 99_995, 100_000, 100_050, 100_100)]
+    near = {math.floor(share * G) + step for share in shares for step in range(-40, 41)}
+    near |= {x + step for x in halves() for step in range(-40, 41)}
+    check_entries(x for x in near if 0 <= x <= G)
+
+
+def test_entry_at_large():
+    """Drawn at large, and on both sides of the middle of two neighbours drawn at large."""
+    rng = make_cases.Random(0x456E7472696573)
+    drawn = {rng.spread(0, G) for _ in range(4_000)}
+    for _ in range(4_000):
+        place = bisect.bisect(VALUES, rng.spread(1, G) * 10**18 // G)
+        middle = (VALUES[place - 1] + VALUES[place]) * G // (2 * 10**18)
+        drawn |= {middle, middle + 1}
+    check_entries(x for x in drawn if x <= G)
+
+
+def test_entry_by_hand():
+    for x, entry in ((0, "0.000E+00"), (1, "9.095E-13"), (2, "1.819E-12"), (G - 1, "1.000E+00"), (G, "1.000E+00"),
+                     (G * 9_997 // 10_000, "9.997E-01"), (G * 99_996 // 100_000, "1.000E+00"), (G // 3, "3.333E-01")):
+        assert ref.entry(x) == entry
 
 
 def main():
