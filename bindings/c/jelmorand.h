@@ -1,10 +1,10 @@
 /* Jelmorand: chain balance and screening of radon, thoron and actinon indoors.
  *
- * Link with libjelmorand.a (x86-64 Linux). Both functions are proved to answer what is said here for every input, on the
+ * Link with libjelmorand.a (x86-64 Linux). All three functions are proved to answer what is said here for every input, on the
  * condition that a C caller must keep and that nothing checks: each pointer is not null, is aligned for its type, and has at
  * least as many elements behind it as the length after it says, also where that length is 0 (any element's address will do
  * then); and what `out` points to overlaps nothing else that is passed. A length is at most PTRDIFF_MAX bytes.
- * Neither function allocates, blocks or keeps a pointer, and both may be called from several threads at once.
+ * None of them allocates, blocks or keeps a pointer, and all may be called from several threads at once.
  *
  * Every function answers an int64_t: the answer itself where it is not negative, and minus the number of the refusal otherwise,
  * as in  if (answer == -JELMORAND_BOOK_TOO_SHORT).
@@ -29,8 +29,14 @@ extern "C" {
 /* No report has more bytes than this. */
 #define JELMORAND_REPORT_ROOM 922
 
-/* The grounds for refusal, in the order in which they are checked. A factor call makes checks 3 and 9 to 19, a job 1 to 18.
- * The Rust and Python wrappers say the same sentences. */
+/* The most rates that a table has. */
+#define JELMORAND_MAX_RATES 200
+
+/* No table has more bytes than this. */
+#define JELMORAND_TABLE_ROOM 33400
+
+/* The grounds for refusal, in the order in which they are checked. A factor call makes checks 3 and 9 to 19, a job 1 to 18,
+ * a table 3, 9 to 18, 20 and 21. The Rust and Python wrappers say the same sentences. */
 enum jelmorand_refusal {
     /* the job has fewer than 48 bytes */
     JELMORAND_JOB_TOO_SHORT = 1,
@@ -69,7 +75,11 @@ enum jelmorand_refusal {
     /* the shares out of one member add up to over 100,000 */
     JELMORAND_SHARES_OUT_TOO_HIGH = 18,
     /* the lent list has fewer places than the book has members */
-    JELMORAND_LIST_TOO_SHORT = 19
+    JELMORAND_LIST_TOO_SHORT = 19,
+    /* the list of rates is empty or has over 200 */
+    JELMORAND_RATE_COUNT_OUT_OF_RANGE = 20,
+    /* the table is longer than the lent buffer */
+    JELMORAND_BUFFER_TOO_SHORT = 21
 };
 
 /* The factor of every member of a chain book at one ventilation rate.
@@ -93,6 +103,22 @@ int64_t jelmorand_factors(uint32_t v, const uint8_t *book, size_t book_len, uint
  * is longer than `out` it writes nothing and answers 0. A text is never empty, so 0 says that there was no room;
  * JELMORAND_REPORT_ROOM bytes suffice for every text. No refusal is answered here: the text says it. */
 int64_t jelmorand_report(const uint8_t *job, size_t job_len, uint8_t *out, size_t out_len);
+
+/* The table of a chain book: the factors at each of a list of ventilation rates, for printing.
+ *
+ * rates: hundredths of an air change per hour, each 0 to 100,000; 1 to 200 of them, in any order.
+ * book: the bytes of the chain book.
+ *
+ * The text is ASCII, each line ends in a line feed, and no zero byte follows it. Each rate has one line, in the list's order:
+ * the rate in whole hundredths, then each member's factor, with single spaces between. A factor, the one that jelmorand_factors
+ * gives, is written as its share of the parent's: d.dddE-dd or d.dddE+00, first digit 1 to 9, rounded to the nearest, halves up;
+ * 0 is 0.000E+00.
+ *
+ * Accepted, it writes the text to the start of `out` and answers its length; what is behind the text is untouched.
+ * Refused, it answers minus the refusal's number, and leaves `out` as it was. The text's length is looked at last;
+ * JELMORAND_TABLE_ROOM bytes suffice for every text. */
+int64_t jelmorand_table(const uint32_t *rates, size_t rates_len, const uint8_t *book, size_t book_len, uint8_t *out,
+                        size_t out_len);
 
 #ifdef __cplusplus
 }

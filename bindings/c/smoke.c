@@ -1,4 +1,4 @@
-/* Calls both functions on rows of document 01 and on refusals, and says which answer is wrong, if one is. */
+/* Calls all three functions on rows of document 01 and on refusals, and says which answer is wrong, if one is. */
 #include "jelmorand.h"
 
 #include <stdio.h>
@@ -113,11 +113,60 @@ static void check_verdicts(void)
     }
 }
 
+static int untouched(const uint8_t *out, size_t length)
+{
+    for (size_t i = 0; i < length; i++)
+        if (out[i] != MARK)
+            return 0;
+    return 1;
+}
+
+/* The first row of the factors as a table, in exactly its room and in more. */
+static void check_table(void)
+{
+    static const uint32_t rates[] = {0, 100, 200};
+    static const char text[] = "0 1.000E+00 1.000E+00\n100 1.000E+00 5.000E-01\n200 1.000E+00 3.333E-01\n";
+    const size_t length = sizeof text - 1;
+    const size_t rooms[] = {length, JELMORAND_TABLE_ROOM};
+    uint8_t book[128];
+    uint8_t out[JELMORAND_TABLE_ROOM];
+    size_t book_length = one_feed(book, 0);
+    for (int i = 0; i < 2; i++) {
+        memset(out, MARK, sizeof out);
+        expect(jelmorand_table(rates, 3, book, book_length, out, rooms[i]) == (int64_t)length, "the table's length");
+        expect(memcmp(out, text, length) == 0, "the table's text");
+        expect(untouched(out + length, sizeof out - length), "the bytes past the table");
+    }
+}
+
+static void check_refused_tables(void)
+{
+    static const uint32_t rates[JELMORAND_MAX_RATES + 1] = {0, 100, 200};
+    static const uint32_t too_high[] = {0, 100001};
+    uint8_t book[128];
+    uint8_t out[JELMORAND_TABLE_ROOM];
+    const size_t length = one_feed(book, 0);
+    const size_t most = JELMORAND_MAX_RATES;
+    const size_t room = sizeof out;
+    memset(out, MARK, room);
+    expect(jelmorand_table(too_high, 2, book, 0, out, room) == -JELMORAND_RATE_TOO_HIGH, "refusal 3 of a list");
+    expect(jelmorand_table(rates, 0, book, 0, out, room) == -JELMORAND_BOOK_TOO_SHORT, "refusal 9 of a table");
+    expect(jelmorand_table(rates, 0, book, length, out, 0) == -JELMORAND_RATE_COUNT_OUT_OF_RANGE, "refusal 20 of no rates");
+    expect(jelmorand_table(rates, most + 1, book, length, out, room) == -JELMORAND_RATE_COUNT_OUT_OF_RANGE, "refusal 20");
+    expect(jelmorand_table(rates, 3, book, length, out, 69) == -JELMORAND_BUFFER_TOO_SHORT, "refusal 21");
+    expect(jelmorand_table(rates, 3, book, length, out, 0) == -JELMORAND_BUFFER_TOO_SHORT, "refusal 21 of no buffer");
+    expect(untouched(out, room), "the buffer after a refusal");
+    /* Lines of 22, 24 and 24 bytes, then 197 at rate 0. */
+    expect(jelmorand_table(rates, most, book, length, out, room) == 70 + 197 * 22, "a table of the most rates");
+}
+
 int main(void)
 {
     check_factors();
     check_report();
     check_verdicts();
+    check_table();
+    check_refused_tables();
     puts(failures == 0 ? "smoke: all answers right" : "smoke: failed");
     return failures != 0;
 }

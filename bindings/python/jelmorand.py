@@ -15,7 +15,7 @@ import ctypes
 import dataclasses
 import os
 import pathlib
-from typing import List, Optional, Union
+from typing import Iterable, List, Optional, Union
 
 Bytes = Union[bytes, bytearray, memoryview]
 
@@ -24,6 +24,12 @@ MAX_MEMBERS = 16
 
 REPORT_ROOM = 922
 """No report has more bytes than this."""
+
+MAX_RATES = 200
+"""The most rates that a table has."""
+
+TABLE_ROOM = 33_400
+"""No table has more bytes than this."""
 
 GROUNDS = {
     1: "the job has fewer than 48 bytes",
@@ -45,12 +51,14 @@ GROUNDS = {
     17: "a feed does not come from a lower member than the one it feeds",
     18: "the shares out of one member add up to over 100,000",
     19: "the lent list has fewer places than the book has members",
+    20: "the list of rates is empty or has over 200",
+    21: "the table is longer than the lent buffer",
 }
 """The grounds for refusal by number, in checking order, in the words of the C header."""
 
 
 class Refused(ValueError):
-    """A job or a factor call that is refused, for the first of the grounds that is met.
+    """A job, a factor call or a table that is refused, for the first of the grounds that is met.
 
     `number` is the ground's number, the one that a report prints, and `sentence` says what is wrong.
     """
@@ -103,13 +111,15 @@ def _shared_object() -> pathlib.Path:
 
 
 def _library() -> ctypes.CDLL:
-    """The shared object, with the types of its two functions."""
+    """The shared object, with the types of its three functions."""
     library = ctypes.CDLL(str(_shared_object()))
-    size, byte_list = ctypes.c_size_t, ctypes.c_char_p
+    size, byte_list, room = ctypes.c_size_t, ctypes.c_char_p, ctypes.POINTER(ctypes.c_char)
     library.jelmorand_factors.argtypes = [ctypes.c_uint32, byte_list, size, ctypes.POINTER(ctypes.c_uint64), size]
     library.jelmorand_factors.restype = ctypes.c_int64
-    library.jelmorand_report.argtypes = [byte_list, size, ctypes.POINTER(ctypes.c_char), size]
+    library.jelmorand_report.argtypes = [byte_list, size, room, size]
     library.jelmorand_report.restype = ctypes.c_int64
+    library.jelmorand_table.argtypes = [ctypes.POINTER(ctypes.c_uint32), size, byte_list, size, room, size]
+    library.jelmorand_table.restype = ctypes.c_int64
     return library
 
 
@@ -130,6 +140,13 @@ def _plain(data: Bytes, what: str) -> bytes:
     return bytes(data)
 
 
+def _rate(v: int) -> int:
+    """A rate in 32 bits. One of 33 bits or more would be cut; it is refused as the largest rate is."""
+    if v < 0:
+        raise ValueError(f"the rate is {v}: a rate is not negative")
+    return min(v, 2**32 - 1)
+
+
 def factors(v: int, book: Bytes) -> List[int]:
     """The factor of every member of a chain book at rate `v`, in grains of 2^-40 of the parent's activity, the parent first.
 
@@ -137,13 +154,26 @@ def factors(v: int, book: Bytes) -> List[int]:
     book: the bytes of the chain book.
     Raises Refused where the rate is too high or the book is not accepted, and ValueError for a rate below 0.
     """
-    if v < 0:
-        raise ValueError(f"the rate is {v}: a rate is not negative")
-    data = _plain(book, "book")
+    rate, data = _rate(v), _plain(book, "book")
     places = (ctypes.c_uint64 * MAX_MEMBERS)()
-    # A rate of 33 bits or more would be cut; it is refused as the largest rate is.
-    count = _answered(_LIBRARY.jelmorand_factors(min(v, 2**32 - 1), data, len(data), places, MAX_MEMBERS))
+    count = _answered(_LIBRARY.jelmorand_factors(rate, data, len(data), places, MAX_MEMBERS))
     return list(places[:count])
+
+
+def table(rates: Iterable[int], book: Bytes) -> str:
+    """The table of a chain book, for printing. Each rate has one line, in the list's order: the rate, then every member's factor as
+    its share of the parent's, such as 5.000E-01, rounded to the nearest, halves up.
+
+    rates: hundredths of an air change per hour, each 0 to 100,000; 1 to 200 of them, in any order.
+    book: the bytes of the chain book.
+    Raises Refused where a rate is too high, the book is not accepted or there are no rates or too many, and ValueError for a rate
+    below 0.
+    """
+    numbers, data = [_rate(v) for v in rates], _plain(book, "book")
+    listed = (ctypes.c_uint32 * len(numbers))(*numbers)
+    room = ctypes.create_string_buffer(TABLE_ROOM)
+    length = _answered(_LIBRARY.jelmorand_table(listed, len(listed), data, len(data), room, TABLE_ROOM))
+    return room.raw[:length].decode("ascii")
 
 
 def report(job: Bytes) -> str:

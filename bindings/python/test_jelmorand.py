@@ -1,8 +1,9 @@
-"""The Python module against the recorded cases, the stored examples, the C header and document 01's rows.
+"""The Python module against the recorded cases and tables, the stored examples, the C header and document 01's rows.
 
     JELMORAND_SO=target/bindings/libjelmorand.so python3 bindings/python/test_jelmorand.py
 """
 
+import ctypes
 import os
 import pathlib
 import pickle
@@ -29,6 +30,17 @@ def recorded_jobs():
         (length,) = struct.unpack_from("<H", data, at)
         yield data[at + 2 : at + 2 + length]
         at += 2 + length
+
+
+def recorded_tables():
+    """(rates, book, room) of each record; docs/src/make_tables.py says how they are written."""
+    data = (ROOT / "crates" / "table_cases" / "stdin").read_bytes()
+    at = 0
+    while at < len(data):
+        room, count, length = struct.unpack_from("<IHH", data, at)
+        book = at + 8 + 4 * count
+        yield list(struct.unpack_from(f"<{count}I", data, at + 8)), data[book : book + length], room
+        at = book + length
 
 
 def text_of(report):
@@ -81,6 +93,73 @@ class Factors(unittest.TestCase):
                 jelmorand.factors(100, wrong)
 
 
+def lent_table(rates, book, room):
+    """What is recorded of a table: the answer, and the whole buffer, every byte of which was # before the call."""
+    buffer = ctypes.create_string_buffer(b"#" * room, room)
+    listed = (ctypes.c_uint32 * len(rates))(*rates)
+    answer = jelmorand._LIBRARY.jelmorand_table(listed, len(listed), book, len(book), buffer, room)
+    return f"{'written' if answer >= 0 else 'refused'} {abs(answer)}\n{buffer.raw.decode('ascii')}\n"
+
+
+class Tables(unittest.TestCase):
+    BOOK = Factors.BOOK
+
+    def refused(self, rates, book):
+        with self.assertRaises(jelmorand.Refused) as caught:
+            jelmorand.table(rates, book)
+        return caught.exception.number
+
+    def test_rows(self):
+        text = "0 1.000E+00 1.000E+00\n100 1.000E+00 5.000E-01\n200 1.000E+00 3.333E-01\n"
+        self.assertEqual(jelmorand.table([0, 100, 200], self.BOOK), text)
+
+    def test_recorded_tables(self):
+        texts = [lent_table(*table) for table in recorded_tables()]
+        self.assertEqual("".join(texts), (ROOT / "crates" / "table_cases" / "stdout").read_text("ascii"))
+
+    def test_reference(self):
+        """Every recorded list of rates and book with room enough: the text, or the refusal's number."""
+        for rates, book, _ in recorded_tables():
+            expected = reference.table_call(rates, book, jelmorand.TABLE_ROOM)
+            try:
+                answer = jelmorand.table(rates, book)
+            except jelmorand.Refused as refused:
+                answer = refused.number
+            self.assertEqual(answer, expected)
+
+    def test_longest(self):
+        members = [pack_member(1, first=i) for i in range(jelmorand.MAX_MEMBERS)]
+        book = pack_book(members, [pack_feed(100_000, i) for i in range(jelmorand.MAX_MEMBERS - 1)])
+        self.assertEqual(len(jelmorand.table([100_000] * jelmorand.MAX_RATES, book)), jelmorand.TABLE_ROOM)
+
+    def test_number_of_rates(self):
+        for count in (0, jelmorand.MAX_RATES + 1):
+            self.assertEqual(self.refused([0] * count, self.BOOK), 20)
+
+    def test_rates_out_of_range(self):
+        for v in (100_001, 2**32 - 1, 2**32, 2**64 + 18):
+            for rates in ([v], [v, 0], [0, v]):
+                self.assertEqual(self.refused(rates, self.BOOK), 3)
+        for rates in ([-1], [0, -1], [100_001, -(2**32)]):
+            with self.assertRaisesRegex(ValueError, "a rate is not negative"):
+                jelmorand.table(rates, self.BOOK)
+
+    def test_kinds_of_lists(self):
+        text = jelmorand.table([0, 100, 200], self.BOOK)
+        for rates in ((0, 100, 200), range(0, 300, 100), iter([0, 100, 200])):
+            self.assertEqual(jelmorand.table(rates, self.BOOK), text)
+        for wrong in (100, "100", None, [1.5]):
+            with self.assertRaises(TypeError):
+                jelmorand.table(wrong, self.BOOK)
+
+    def test_kinds_of_bytes(self):
+        for kind in (bytearray, memoryview):
+            self.assertEqual(jelmorand.table([100], kind(self.BOOK)), jelmorand.table([100], self.BOOK))
+        for wrong in (8, "book", None, [1, 0]):
+            with self.assertRaises(TypeError):
+                jelmorand.table([100], wrong)
+
+
 class Reports(unittest.TestCase):
     def test_recorded_jobs(self):
         texts = [screened(job) for job in recorded_jobs()]
@@ -102,11 +181,13 @@ class Refusals(unittest.TestCase):
     def test_sentences_are_the_header_s(self):
         listed = re.findall(r"/\* (.*) \*/\n    JELMORAND_[A-Z_]+ = (\d+)", self.HEADER)
         self.assertEqual({int(number): sentence for sentence, number in listed}, jelmorand.GROUNDS)
-        self.assertEqual(list(jelmorand.GROUNDS), list(range(1, 20)))
+        self.assertEqual(list(jelmorand.GROUNDS), list(range(1, 22)))
 
     def test_sizes_are_the_header_s(self):
         self.assertIn(f"#define JELMORAND_REPORT_ROOM {jelmorand.REPORT_ROOM}\n", self.HEADER)
         self.assertIn(f"#define JELMORAND_MAX_MEMBERS {jelmorand.MAX_MEMBERS}\n", self.HEADER)
+        self.assertIn(f"#define JELMORAND_TABLE_ROOM {jelmorand.TABLE_ROOM}\n", self.HEADER)
+        self.assertIn(f"#define JELMORAND_MAX_RATES {jelmorand.MAX_RATES}\n", self.HEADER)
 
     def test_what_is_raised(self):
         with self.assertRaises(jelmorand.Refused) as caught:

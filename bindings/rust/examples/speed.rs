@@ -1,35 +1,61 @@
-//! Times the factor call and the plain rewrite at a book of 16 members and 64 feeds, for many rates.
+//! Times the factor call for many rates, and a table of 200, beside the plain rewrite, at a book of 16 members and 64 feeds.
+//! The rewrite of a table searches for each entry, digit by digit, so its time is no measure of a plain program's, and no ratio
+//! is printed there.
 #[path = "../tests/common/mod.rs"]
 mod common;
 
 use common::books::book_of;
-use common::plain;
 use common::random::Random;
+use common::{plain, plain_table};
 use std::hint::black_box;
 use std::time::{Duration, Instant};
 
 const RATES: u32 = 10_000;
 const ROUNDS: usize = 5;
+const TABLE_ROUNDS: usize = 50;
 
-/// The best time of several rounds over all rates.
-fn time(mut call: impl FnMut(u32)) -> Duration {
-    let mut round = || {
+/// The best time of several rounds.
+fn best(rounds: usize, mut round: impl FnMut()) -> Duration {
+    let mut time = || {
         let start = Instant::now();
-        (0..RATES).for_each(|k| call(black_box(k * 10)));
+        round();
         start.elapsed()
     };
-    (0..ROUNDS).map(|_| round()).min().expect("there are rounds")
+    (0..rounds).map(|_| time()).min().expect("there are rounds")
+}
+
+/// The best time of several rounds over many rates.
+fn over_rates(mut call: impl FnMut(u32)) -> Duration {
+    best(ROUNDS, || (0..RATES).for_each(|k| call(black_box(k * 10))))
+}
+
+fn time_factors(book: &[u8]) {
+    let mut list = [0u64; 16];
+    let proved = over_rates(|v| {
+        jelmorand::factors(v, black_box(book), black_box(&mut list)).expect("a good book");
+    });
+    let rewrite = over_rates(|v| {
+        plain::factors(v, black_box(book), black_box(&mut list)).expect("a good book");
+    });
+    let ratio = proved.as_secs_f64() / rewrite.as_secs_f64();
+    println!("speed: {RATES} rates, 16 members, 64 feeds: proved {proved:?}, plain u128 {rewrite:?}, ratio {ratio:.2}");
+}
+
+fn time_table(book: &[u8]) {
+    let rates: Vec<u32> = (0..200).map(|k| k * 500).collect();
+    let (mut proved_text, mut plain_text) = ([0; jelmorand::TABLE_ROOM], [0; jelmorand::TABLE_ROOM]);
+    let proved = best(TABLE_ROUNDS, || {
+        jelmorand::table_into(black_box(&rates), black_box(book), black_box(&mut proved_text)).expect("a good book");
+    });
+    let rewrite = best(TABLE_ROUNDS, || {
+        plain_table::table(black_box(&rates), black_box(book), black_box(&mut plain_text)).expect("a good book");
+    });
+    assert!(proved_text == plain_text, "the two tables differ");
+    println!("speed: a table of 200 rates, 16 members, 64 feeds: proved {proved:?}, plain u128, by search {rewrite:?}");
 }
 
 fn main() {
     let book = book_of(&mut Random::fresh("speed"), 16, 64);
-    let mut list = [0u64; 16];
-    let proved = time(|v| {
-        jelmorand::factors(v, black_box(&book), black_box(&mut list)).expect("a good book");
-    });
-    let rewrite = time(|v| {
-        plain::factors(v, black_box(&book), black_box(&mut list)).expect("a good book");
-    });
-    let ratio = proved.as_secs_f64() / rewrite.as_secs_f64();
-    println!("speed: {RATES} rates, 16 members, 64 feeds: proved {proved:?}, plain u128 {rewrite:?}, ratio {ratio:.2}");
+    time_factors(&book);
+    time_table(&book);
 }

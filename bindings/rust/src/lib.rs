@@ -1,6 +1,6 @@
 //! Chain balance and screening of radon, thoron and actinon indoors.
 //!
-//! The two functions behind this crate are proved to answer what their contracts in `crates/jelmorand` say, for every input.
+//! The three functions behind this crate are proved to answer what their contracts in `crates/jelmorand` say, for every input.
 //! What is not proved is this crate: that it declares them as they are, and that it reads a report's text as it should.
 //!
 //! A job is 48 bytes, followed by a chain book; `docs/FORMAT.md` has the bytes. The job here is a gas alone with an inhalation
@@ -36,6 +36,9 @@
 //! assert_eq!(jelmorand::factors(18, &book, &mut factors)?, 1);
 //! let refused = jelmorand::factors(100_001, &book, &mut factors).unwrap_err();
 //! assert_eq!(refused.to_string(), "the rate exceeds 100,000");
+//!
+//! let table = jelmorand::table(&[18, 100], &book)?;
+//! assert_eq!(table, "18 1.000E+00\n100 1.000E+00\n");
 //! # Ok::<(), jelmorand::Refusal>(())
 //! ```
 #![cfg_attr(not(feature = "std"), no_std)]
@@ -53,9 +56,23 @@ pub const MAX_MEMBERS: usize = 16;
 /// No report has more bytes than this.
 pub const REPORT_ROOM: usize = 922;
 
+/// The most rates that a table has.
+pub const MAX_RATES: usize = 200;
+
+/// No table has more bytes than this.
+pub const TABLE_ROOM: usize = 33_400;
+
 extern "C" {
     fn jelmorand_factors(v: u32, book: *const u8, book_len: usize, out: *mut u64, out_len: usize) -> i64;
     fn jelmorand_report(job: *const u8, job_len: usize, out: *mut u8, out_len: usize) -> i64;
+    fn jelmorand_table(
+        rates: *const u32,
+        rates_len: usize,
+        book: *const u8,
+        book_len: usize,
+        out: *mut u8,
+        out_len: usize,
+    ) -> i64;
 }
 
 /// The answer itself where it is not negative, and minus the refusal's number otherwise: every call answers so.
@@ -84,4 +101,21 @@ pub fn report_into(job: &[u8], out: &mut [u8]) -> Option<usize> {
     // As in `factors`.
     let answer = unsafe { jelmorand_report(job.as_ptr(), job.len(), out.as_mut_ptr(), out.len()) };
     answered(answer).ok().filter(|length| *length != 0)
+}
+
+/// The table of a chain book at 1 to 200 rates (hundredths of an air change per hour). Each rate has one line, in the list's order:
+/// the rate, then every member's factor as its share of the parent's, such as `5.000E-01`, rounded to the nearest, halves up.
+#[cfg(feature = "std")]
+pub fn table(rates: &[u32], book: &[u8]) -> Result<String, Refusal> {
+    let mut room = vec![0; TABLE_ROOM];
+    let length = table_into(rates, book, &mut room)?;
+    Ok(core::str::from_utf8(&room[..length]).expect("a table is ASCII").to_owned())
+}
+
+/// The table of a chain book at 1 to 200 rates, written to the start of `out`. Answers its length; a refusal leaves `out` as it
+/// was. `TABLE_ROOM` bytes suffice for any.
+pub fn table_into(rates: &[u32], book: &[u8], out: &mut [u8]) -> Result<usize, Refusal> {
+    // As in `factors`.
+    let answer = unsafe { jelmorand_table(rates.as_ptr(), rates.len(), book.as_ptr(), book.len(), out.as_mut_ptr(), out.len()) };
+    answered(answer)
 }

@@ -5,7 +5,7 @@ use core::fmt;
 /// Lists the grounds once: the enum with its documentation, the list of all, and each one's sentence.
 macro_rules! grounds {
     ($($name:ident = $number:literal, $sentence:literal;)*) => {
-        /// Why a factor call or a job is refused, in checking order; each has the number that a report prints.
+        /// Why a factor call, a job or a table is refused, in checking order; each has the number that a report prints.
         #[derive(Clone, Copy, Debug, PartialEq, Eq, Hash)]
         #[non_exhaustive]
         #[repr(u32)]
@@ -47,6 +47,8 @@ grounds! {
     FeedNotFromLower = 17, "a feed does not come from a lower member than the one it feeds";
     SharesOutTooHigh = 18, "the shares out of one member add up to over 100,000";
     ListTooShort = 19, "the lent list has fewer places than the book has members";
+    RateCountOutOfRange = 20, "the list of rates is empty or has over 200";
+    BufferTooShort = 21, "the table is longer than the lent buffer";
 }
 
 impl Refusal {

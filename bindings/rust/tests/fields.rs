@@ -58,4 +58,6 @@ fn sizes_are_the_header_s() {
     let header = include_str!("../../c/jelmorand.h");
     assert!(header.contains(&format!("#define JELMORAND_REPORT_ROOM {}\n", jelmorand::REPORT_ROOM)));
     assert!(header.contains(&format!("#define JELMORAND_MAX_MEMBERS {}\n", jelmorand::MAX_MEMBERS)));
+    assert!(header.contains(&format!("#define JELMORAND_MAX_RATES {}\n", jelmorand::MAX_RATES)));
+    assert!(header.contains(&format!("#define JELMORAND_TABLE_ROOM {}\n", jelmorand::TABLE_ROOM)));
 }

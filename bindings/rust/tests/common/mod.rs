@@ -1,8 +1,10 @@
-//! What the tests and the timing share: a rewrite of document 01 in plain Rust, and random books and jobs.
+//! What the tests and the timing share: a rewrite of documents 01 and 02 in plain Rust, and random books, jobs and tables.
 #![allow(dead_code)]
 
 pub mod books;
 pub mod edge_jobs;
 pub mod plain;
 pub mod plain_job;
+pub mod plain_table;
 pub mod random;
+pub mod tables;
