@@ -1,7 +1,8 @@
 #!/usr/bin/env python3
-"""Each example's text turns into its bytes and back, and its stored output is what the reference says of it.
+"""Each example's text turns into its bytes and back, and its stored output is what the reference says of it: the report of its job and,
+of the three gases, the table of its book at the rates of source 000's radon table.
 
-Where the program is built, it is run too: on each example by its name and from standard input, and on what it cannot read.
+Where the programs are built, they are run too: on each example by its name and from standard input, and on what they cannot read.
 """
 import pathlib
 import subprocess
@@ -10,18 +11,25 @@ import tempfile
 
 HERE = pathlib.Path(__file__).resolve().parent
 BOOK = HERE.parent / "tools" / "book.py"
-REFERENCE = HERE.parent / "docs" / "src" / "reference.py"
-SCREEN = HERE.parent / "target" / "bin" / "screen"
+SOURCES = HERE.parent / "docs" / "src"
+REFERENCE = SOURCES / "reference.py"
+PROGRAMS = HERE.parent / "target" / "bin"
+SCREEN = PROGRAMS / "screen"
+TABLE = PROGRAMS / "table"
+GASES = ("radon", "thoron", "actinon")
+
+sys.path.insert(0, str(SOURCES))
+import reference
 
 
 def run(*words, given=None):
     return subprocess.run([sys.executable, *map(str, words)], input=given, capture_output=True, check=True).stdout
 
 
-def encoded(text):
+def encoded(text, *words):
     with tempfile.TemporaryDirectory() as folder:
         out = pathlib.Path(folder) / "job"
-        run(BOOK, "encode", text, out)
+        run(BOOK, "encode", *words, text, out)
         return out.read_bytes()
 
 
@@ -36,10 +44,33 @@ def check(text):
     assert said == text.with_suffix(".out").read_bytes(), text.name
 
 
-def screened(*words, given=b""):
-    """What the program writes on both outputs. It must not wait for an input that it has no use for."""
-    done = subprocess.run([SCREEN, *map(str, words)], input=given, capture_output=True, timeout=60)
+def rates_of(table):
+    """The first column of a table's text."""
+    return [int(line.split()[0]) for line in table.splitlines()]
+
+
+def check_table(text):
+    """The stored book is the text's, and the stored table is the reference's, at the rates of the Po-218 column."""
+    book, table = text.with_suffix(".book"), text.with_suffix(".table").read_text()
+    assert encoded(text, "--book") == book.read_bytes() == text.with_suffix(".job").read_bytes()[48:], text.name
+    column = (HERE.parent / "crates" / "po218" / "stdout").read_text().split()[::2]
+    rates = [reference.Fraction(rate) * 100 for rate in column]
+    assert len(rates) == 74 and rates_of(table) == rates, text.name
+    assert reference.table_call(rates_of(table), book.read_bytes(), len(table)) == table, text.name
+
+
+def output(program, *words, given=b""):
+    """What a program writes on both outputs. It must not wait for an input that it has no use for."""
+    done = subprocess.run([program, *map(str, words)], input=given, capture_output=True, timeout=60)
     return done.stdout, done.stderr.decode()
+
+
+def screened(*words, given=b""):
+    return output(SCREEN, *words, given=given)
+
+
+def tabled(*words):
+    return output(TABLE, *words)
 
 
 def check_screen(texts):
@@ -55,12 +86,43 @@ def check_screen(texts):
     assert screened() == (b"refused 1\n", "")
 
 
+def check_tables():
+    """The stored tables without rates, with all of them and with some; and rates and books that are refused."""
+    for gas in GASES:
+        book, table = HERE / f"{gas}.book", (HERE / f"{gas}.table").read_bytes()
+        assert tabled(book) == tabled(book, *rates_of(table)) == (table, ""), f"{gas}: is the program the newest? (rt check table)"
+        lines = table.splitlines(keepends=True)
+        assert tabled(book, "060", 18) == (lines[rates_of(table).index(60)] + lines[rates_of(table).index(18)], "")
+    radon = HERE / "radon.book"
+    assert tabled(radon, *range(200))[0].count(b"\n") == 200
+    for words in ([100_001], [18, 100_001], [2**32 + 18], [10**40], [*range(200), 100_001]):
+        assert tabled(radon, *words) == (b"refused 3\n", ""), words
+    assert tabled(radon, *range(201)) == tabled(radon, *range(1000)) == (b"refused 20\n", "")
+    assert tabled(radon, *range(1001)) == (b"", "table: more than 1,000 rates\n")
+    for word in ("0.18", "", "-1", "+1", "1e2", "18 ", "x"):
+        said = f"table: {word}: a rate is whole hundredths per hour, so 18 for 0.18\n"
+        assert tabled(radon, 18, word) == (b"", said), word
+    assert tabled(HERE / "radon.txt", 18)[0].startswith(b"refused ")
+    none = HERE / "none.book"
+    assert tabled(none, 18) == (b"", f"{none}: No such file or directory\n")
+    assert tabled(HERE) == (b"", f"{HERE}: Is a directory\n")
+    assert tabled("a" * 5_000) == (b"", "table: the file's name: File name too long\n")
+    assert tabled() == (b"", "usage: table BOOKFILE [RATE ...]\n")
+
+
 def main():
     texts = sorted(HERE.glob("*.txt"))
     assert len(texts) == 4
     for text in texts:
         check(text)
-    print(f"{len(texts)} examples agree")
+    for gas in GASES:
+        check_table(HERE / f"{gas}.txt")
+    print(f"{len(texts)} examples agree, and {len(GASES)} tables")
+    if TABLE.exists():
+        check_tables()
+        print("table agrees, with the source's rates and with others")
+    else:
+        print("table is not built here, so it was not run (rt check table builds it)")
     if SCREEN.exists():
         check_screen(texts)
         print("screen agrees, with a file's name and from standard input")

@@ -1,7 +1,7 @@
 #!/usr/bin/env python3
 """Readable text into the bytes of a job with its chain book (or a book alone), and back.
 
-    book.py encode TEXT OUT
+    book.py encode [--book] TEXT OUT
     book.py decode [--job | --book] [--names TEXT] BYTES
     book.py explain [NUMBER]
     book.py --help
@@ -122,19 +122,23 @@ def check_no_text(source, out):
         raise Failure(f"{out}: is there already, and by its name a text; give the job another name")
 
 
-def encode_file(source, out):
+def encode_file(source, out, book_alone=False):
     check_no_text(source, out)
     try:
         job, book = read_text(read_source(source))
     except Mistake as mistake:
         raise Failure(f"{place(source, mistake.line)}: {mistake}")
+    if book_alone:
+        job = None
     data = all_bytes(job, book)
     tell_remarks(source, job, book)
     try:
         write_file(out, data)
     except OSError as error:
         raise Failure(f"{out}: not written: {error.strerror or error}")
-    what = "a job with its book" if job else "a book alone (screen asks for a job: its lines are rate to adult)"
+    what = "a job with its book" if job else "a book alone"
+    if not job and not book_alone:
+        what += " (screen asks for a job: its lines are rate to adult)"
     tell(f"{out}: wrote {what}: members {len(book.members)}, feeds {len(book.feeds)}, bytes {len(data):,}")
 
 
@@ -178,6 +182,8 @@ def run(words):
         put(read_source(MANUAL))
     elif words[:1] == ["encode"] and len(words) == 3:
         encode_file(words[1], words[2])
+    elif words[:2] == ["encode", "--book"] and len(words) == 4:
+        encode_file(words[2], words[3], book_alone=True)
     elif words[:1] == ["decode"] and len(words) > 1:
         decode_file(words[1:])
     elif words[:1] == ["explain"] and len(words) < 3:

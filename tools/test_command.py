@@ -45,11 +45,26 @@ def test_encode_and_decode(folder):
 
 
 @folder_test
+def test_book_alone(folder):
+    """The book of a text, whether or not the lines of a job stand beside it."""
+    lines = RADON.read_text().splitlines(keepends=True)
+    (folder / "book.txt").write_text("".join(line for line in lines if line.startswith(("divisor", "member", "feed"))))
+    for text, words in ((RADON, ["--book"]), (folder / "book.txt", ["--book"]), (folder / "book.txt", [])):
+        status, _, said = run("encode", *words, text, folder / "radon.book")
+        assert status == 0 and "wrote a book alone" in said and ("screen asks" in said) == (words == []), said
+        assert (folder / "radon.book").read_bytes() == RADON.with_suffix(".book").read_bytes()
+    assert run("encode", "--job", RADON, folder / "other")[0] == 2
+
+
+@folder_test
 def test_readme(folder):
-    """The README shows what encode says and what screen writes."""
+    """The README shows what encode says and what screen and table write."""
     readme = (HERE.parent / "README.md").read_text(encoding="utf-8")
     (folder / "cellar.txt").write_bytes(RADON.read_bytes())
     shown = [run("encode", "cellar.txt", "cellar.job", cwd=folder)[2]]
+    shown.append(run("encode", "--book", "cellar.txt", "cellar.book", cwd=folder)[2].splitlines()[-1])
+    table = RADON.with_suffix(".table").read_text().splitlines()
+    shown += ["\n".join(table[:4]), "\n".join(line for rate in ("60 ", "18 ") for line in table if line.startswith(rate))]
     (folder / "cellar.txt").write_text(RADON.read_text().replace("rate 0.18 per hour", "rate 0.18"))
     shown.append(run("encode", "cellar.txt", "cellar.job", cwd=folder)[2])
     shown += workroom(folder)
@@ -203,10 +218,10 @@ def test_closed_output():
 def test_explain():
     status, out, _ = run("explain", 8)
     assert status == 0 and out.startswith("8. ") and "4,000,000,000 mBq/m3" in out
-    assert run("explain")[1].count("Where to look") == 19
-    for word in ("0", "20", "x", "08", "9" * 5_000):
+    assert run("explain")[1].count("Where to look") == 21
+    for word in ("0", "22", "x", "08", "9" * 5_000):
         status, _, said = run("explain", word)
-        assert status == 1 and "the grounds are 1 to 19" in said
+        assert status == 1 and "the grounds are 1 to 21" in said
 
 
 def test_help():
@@ -214,4 +229,4 @@ def test_help():
         assert run(word)[:2] == (0, (HERE / "MANUAL.md").read_text(encoding="ascii"))
     for words in ("", "encode", "encode x", "decode", "decode --names x", "decode --job --job x", "explain 1 2"):
         status, _, said = run(*words.split())
-        assert status == 2 and "book.py encode TEXT OUT" in said
+        assert status == 2 and "book.py encode [--book] TEXT OUT" in said

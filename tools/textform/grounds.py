@@ -1,4 +1,4 @@
-"""The nineteen grounds for refusal in plain words: what is wrong, and where to look."""
+"""The grounds for refusal in plain words: what is wrong, and where to look."""
 
 GROUNDS = {
     1: ("The job is shorter than 48 bytes.", "the file: it is empty, cut short or no job; encode the text again"),
@@ -43,6 +43,8 @@ GROUNDS = {
     ),
     18: ("The shares out of one member add up to more than 100,000.", "the feed lines from that member"),
     19: ("The list lent to the factor call is shorter than the chain.", "the program that calls; `screen` never says this"),
+    20: ("A table has no rate, or more than 200.", "the rates given to `table`"),
+    21: ("The table is longer than the buffer lent to the call.", "the program that calls; `table` never says this"),
 }
 
 

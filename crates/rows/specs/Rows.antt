@@ -1,9 +1,10 @@
 -- The rows of document 01 that are marked for the check, restated in quarter hours (document 02, R-1), and those of dose by the guide's
--- fractions (R-2): one list, one computation over the definitions.
-use Prim.Native.Nat.{ℕ, _/_}
+-- fractions (R-2), and of a table's entries (R-3): one list, one computation over the definitions.
+use Prim.Native.Nat.{ℕ, _*_, _/_}
+use Prim.Native.String.{String}
 use mathlib.Core.Bool.{Bool, true, false, _&&_}
 use mathlib.Core.Path.{_≡_, refl}
-use mathlib.Core.List.{List, [], _∷_}
+use mathlib.Core.List.{List, [], _∷_, _++_}
 use lib.Dec.{eqb}
 use lib.ListN.{replicate, length}
 use lib.Ieee.{odd, ofBits, binary64}
@@ -13,6 +14,9 @@ use Rattle.book.specs.Tests.{someBelow, someIn}
 use Rattle.book.specs.BookGrounds.{bookTooShort, countOutOfRange, bookLengthWrong, headerInvalid, memberOutOfRange, feedOutOfRange, walk, occurrences, feedNotOnce, feedsMisplaced, feedNotFromLower, sharesOutTooHigh}
 use Rattle.balance.specs.Balance.{G, reported}
 use Rattle.balance.specs.Factors.{factorAnswer, factorList, answerNumber}
+use Rattle.text.specs.Words.{ascii, decimal, lineFeed}
+use Rattle.entry.specs.Entry.{exponentUpTo, entryOf}
+use Rattle.tables.specs.Answers.{someRateTooHigh, tableBuffer}
 use Rattle.reading.specs.Reading.{amountOf, mediumOf, whole, wholeAnswer, readingUnusable, concentrationTooHigh, intakeAnswer}
 use Rattle.reading.specs.declared.amounts.Intake.{Intake}
 use Rattle.reading.specs.declared.amounts.Whole.{Whole}
@@ -95,12 +99,20 @@ pub data Row : Type 0 where
   judged : List ℕ → Verdict → Row
   -- a job is screened with this level
   levelled : List ℕ → ℕ → Row
+  -- a factor has this entry in a table
+  entered : ℕ → String → Row
+  -- the table call at these rates on a book leaves these lines in a buffer of their length
+  tabled : List ℕ → List ℕ → List String → Row
 
 sameList : List ℕ → List ℕ → Bool
 sameList [] [] = true
 sameList [] (y ∷ ys) = false
 sameList (x ∷ xs) [] = false
 sameList (x ∷ xs) (y ∷ ys) = eqb x y && sameList xs ys
+
+lines : List String → List ℕ
+lines [] = []
+lines (line ∷ more) = ascii line ++ lineFeed ++ lines more
 
 numberIs : Whole → ℕ → Bool
 numberIs (Whole.Number m) n = eqb m n
@@ -131,6 +143,8 @@ holds (measures medium unit af bits C) =
 holds (working C Fm W n) = eqb (microLevels C Fm W) n
 holds (judged job v) = verdictIs (answerOf job .outcome) v
 holds (levelled job n) = levelIs (answerOf job .outcome) n
+holds (entered factor text) = sameList (entryOf factor) (ascii text)
+holds (tabled rates book text) = sameList (tableBuffer rates book (replicate (length (lines text)) 0)) (lines text)
 
 pub allHold : List Row → Bool
 allHold [] = true
@@ -162,8 +176,16 @@ marked =
     ∷ judged (doseJob 0 6195 ten residential aloneAtDose) Below
     ∷ judged (doseJob 0 6194 ten residential aloneAtDose) Above
     ∷ levelled (doseJob 0 6195 ten residential aloneAtDose) 370000
+    ∷ entered 0 "0.000E+00"
+    ∷ entered 1 "9.095E-13"
+    ∷ entered (9997 * G / 10000) "9.997E-01"
+    ∷ entered (99996 * G / 100000) "1.000E+00"
+    ∷ entered (5 * G / 32) "1.563E-01"
+    ∷ entered G "1.000E+00"
+    ∷ tabled (0 ∷ 100 ∷ 200 ∷ []) (oneDaughter 100000)
+    ("0 1.000E+00 1.000E+00" ∷ "100 1.000E+00 5.000E-01" ∷ "200 1.000E+00 3.333E-01" ∷ [])
     ∷ []
 
 pub every-marked-row-holds : allHold marked ≡ true
-unfolding marked allHold holds sameList along someBelow someIn bookTooShort countOutOfRange bookLengthWrong headerInvalid memberOutOfRange feedOutOfRange walk occurrences feedNotOnce feedsMisplaced feedNotFromLower sharesOutTooHigh reported nearest exposureOutOfRange whole readingUnusable concentrationTooHigh codeUnknown attenuationOutOfRange sumBelow level workingLevels figuresAt numberIs concentrationIs verdictIs levelIs odd ofBits trailingZeros
+unfolding marked allHold holds sameList lines decimal exponentUpTo entryOf someRateTooHigh along someBelow someIn bookTooShort countOutOfRange bookLengthWrong headerInvalid memberOutOfRange feedOutOfRange walk occurrences feedNotOnce feedsMisplaced feedNotFromLower sharesOutTooHigh reported nearest exposureOutOfRange whole readingUnusable concentrationTooHigh codeUnknown attenuationOutOfRange sumBelow level workingLevels figuresAt numberIs concentrationIs verdictIs levelIs odd ofBits trailingZeros
 every-marked-row-holds = refl
