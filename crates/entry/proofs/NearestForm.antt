@@ -2,10 +2,10 @@
 -- coarser exponent is at least ten thousand of them, so more than one above it. One of a finer exponent is at most 999.9 of them, while the share
 -- itself is at least 999.95, since one place more would have given it five digits.
 use Prim.Native.Nat.{ℕ, suc, _+_, _-_, _*_, _^_, _≤_, _<_}
-use native.Mathlib.Nat.{pow-le-pow-right, mul-le-mul, mul-le-mul-left, mul-le-mul-right, le-trans, le-antisymm, eq-or-lt-of-le, mul-add, mul-sub, le-of-eq, mul-comm, one-le-pow, eq-of-mul-eq-mul-left}
+use native.Mathlib.Nat.{pow-le-pow-right, mul-le-mul, mul-le-mul-left, le-antisymm, eq-or-lt-of-le, mul-add, mul-sub, le-of-eq, one-le-pow, eq-of-mul-eq-mul-left}
 use native.Mathlib.Decide.{decLe}
 use native.Mathlib.Omega.{arith}
-use mathlib.Core.Path.{_≡_, refl, sym, ap, ap₂, _∙_}
+use mathlib.Core.Path.{_≡_, sym, ap, ap₂, _∙_}
 use mathlib.Core.Logic.{_⊎_, inl, inr}
 use Rattle.balance.specs.Balance.{G}
 use Rattle.rounding.proofs.Between.{Between}

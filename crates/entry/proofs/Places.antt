@@ -5,7 +5,7 @@ use native.Mathlib.Nat.{pow-suc, pow-le-pow-right, mul-le-mul-left, eq-or-lt-of-
 use native.Mathlib.Decide.{decLe, decLt}
 use native.Mathlib.Numerals.{add-one}
 use native.Mathlib.Omega.{arith}
-use mathlib.Core.Path.{_≡_, refl, sym, ap, _∙_}
+use mathlib.Core.Path.{_≡_, refl, ap, _∙_}
 use mathlib.Core.Logic.{_⊎_, inl, inr}
 use borrow.Author.Tests.{lt-ltb, le-ltb}
 use Rattle.rounding.specs.Nearest.{nearest}

@@ -1,15 +1,15 @@
 -- What is promised of every entry. At the exponent the share has four digits and one place more gives it five: so its first digit is not 0, and no other
 -- number of the form is as near.
-use Prim.Native.Nat.{ℕ, zero, suc, _+_, _*_, _^_, _≤_, _<_, min}
+use Prim.Native.Nat.{ℕ, zero, suc, _+_, _*_, _^_, _≤_, min}
 use native.Mathlib.Omega.{arith}
 use mathlib.Core.Path.{_≡_, refl, sym, ap, ap₂, _∙_}
 use mathlib.Core.List.{List}
 use lib.ListN.{length}
 use Rattle.rounding.proofs.Between.{Between, nearest-between}
 use Rattle.balance.specs.Balance.{G}
-use Rattle.entry.specs.Form.{sign, form}
+use Rattle.entry.specs.Form.{form}
 use Rattle.entry.specs.Entry.{thousandths, exponent, entryOf}
-use Rattle.entry.specs.Promises.{Printable, NearestPrintable, EntryPromise, EntryPromises}
+use Rattle.entry.specs.Promises.{NearestPrintable, EntryPromise, EntryPromises}
 use Rattle.entry.proofs.Places.{power-next, Turn, turn}
 use Rattle.entry.proofs.Cases.{of-zero, of-some}
 use Rattle.entry.proofs.NearestForm.{nearest-printable, only-nearest}

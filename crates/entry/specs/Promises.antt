@@ -14,6 +14,7 @@ pub record Printable (d e : ℕ) : Type 0 where
   pub four-digits : d ≤ 9999
   pub two-digits : e ≤ 99
 
+-- The difference of two numbers, whichever is larger.
 unfoldable pub apart : ℕ → ℕ → ℕ
 apart a b = (a - b) + (b - a)
 

@@ -1,6 +1,5 @@
 // The nine characters of four digits and an exponent.
 use crate::ENTRY_LENGTH;
-ghost use Prim.Native.Nat.{_≤_};
 ghost use mathlib.Core.Path.{_≡_};
 ghost use mathlib.Core.List.{[], _∷_};
 ghost use Rattle.entry.specs.Form.{digit, sign, form};

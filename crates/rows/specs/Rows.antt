@@ -16,7 +16,7 @@ use Rattle.balance.specs.Balance.{G, reported}
 use Rattle.balance.specs.Factors.{factorAnswer, factorList, answerNumber}
 use Rattle.text.specs.Words.{ascii, decimal, lineFeed}
 use Rattle.entry.specs.Entry.{exponentUpTo, entryOf}
-use Rattle.tables.specs.Answers.{someRateTooHigh, tableBuffer}
+use Rattle.tables.specs.Answers.{someRateTooHigh, tableAnswer, tableBuffer, tableAnswerNumber}
 use Rattle.reading.specs.Reading.{amountOf, mediumOf, whole, wholeAnswer, readingUnusable, concentrationTooHigh, intakeAnswer}
 use Rattle.reading.specs.declared.amounts.Intake.{Intake}
 use Rattle.reading.specs.declared.amounts.Whole.{Whole}
@@ -101,7 +101,7 @@ pub data Row : Type 0 where
   levelled : List ℕ → ℕ → Row
   -- a factor has this entry in a table
   entered : ℕ → String → Row
-  -- the table call at these rates on a book leaves these lines in a buffer of their length
+  -- the table call at these rates on a book answers the length of these lines, and leaves them in a buffer of that length
   tabled : List ℕ → List ℕ → List String → Row
 
 sameList : List ℕ → List ℕ → Bool
@@ -144,7 +144,9 @@ holds (working C Fm W n) = eqb (microLevels C Fm W) n
 holds (judged job v) = verdictIs (answerOf job .outcome) v
 holds (levelled job n) = levelIs (answerOf job .outcome) n
 holds (entered factor text) = sameList (entryOf factor) (ascii text)
-holds (tabled rates book text) = sameList (tableBuffer rates book (replicate (length (lines text)) 0)) (lines text)
+holds (tabled rates book text) =
+    eqb (tableAnswerNumber (tableAnswer rates book (length (lines text)))) (length (lines text))
+    && sameList (tableBuffer rates book (replicate (length (lines text)) 0)) (lines text)
 
 pub allHold : List Row → Bool
 allHold [] = true

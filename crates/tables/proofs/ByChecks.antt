@@ -54,9 +54,6 @@ module _ (rates book : List ℕ) where
       record { rates-low = rate .0; accepted = rest .0; few = ltb-false maxRates (length rates) (counted .1) }
 
   module _ (list : List ℕ) {found : Checked} (checked : found ≡ firstMet (earlierGrounds rates book)) where
-    text : List ℕ
-    text = tableText book rates
-
     last : Checked
     last = cond (bufferTooShort rates book (length list)) (Checked.Refused BufferTooShort) Checked.Passed
 

@@ -1,12 +1,11 @@
 -- A rate that is accepted has at most six digits, and an accepted book at most 16 members, so no line has more than 167 characters. A text is written only
 -- where every ground passes, the last among them; and with room for the longest the last ground is never met.
-use Prim.Native.Nat.{ℕ, _+_, _*_, _^_, _≤_, _<_}
+use Prim.Native.Nat.{ℕ, _≤_}
 use native.Mathlib.Omega.{arith}
 use mathlib.Core.Path.{_≡_, refl, sym, _∙_}
 use mathlib.Core.Bool.{Bool, true, false, cond}
 use mathlib.Core.List.{List, [], _∷_}
 use lib.ListN.{length}
-use lib.Dec.{ltb}
 use borrow.Author.Tests.{ltb-true, ltb-false}
 use Rattle.refusals.specs.Grounds.{ground, firstMet, orElse}
 use Rattle.refusals.specs.declared.Checked.{Checked}

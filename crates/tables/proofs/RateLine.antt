@@ -1,26 +1,24 @@
 -- The line of a rate: as long as its rate has digits and its book has members, and made of the factors that the factor call leaves.
-use Prim.Native.Nat.{ℕ, _+_, _-_, _*_, _^_, _≤_, _<_}
+use Prim.Native.Nat.{ℕ, _+_, _-_, _*_, _≤_}
 use native.Mathlib.Omega.{arith}
-use mathlib.Core.Path.{_≡_, refl, ap, _∙_}
+use mathlib.Core.Path.{_≡_, ap, _∙_}
 use mathlib.Core.List.{List}
-use lib.ListN.{length, take, drop, getD, replicate, length-append}
+use lib.ListN.{length, take, replicate, length-append}
 use lib.Seq.{take-at}
 use Rattle.book.specs.Limits.{maxMembers}
 use Rattle.book.specs.Fields.{members, scaleOf}
 use Rattle.book.specs.BookGrounds.{Accepted}
-use Rattle.book.specs.Table.{tableOf}
 use Rattle.book.specs.declared.table.ChainTable.{ChainTable}
 use Rattle.book.proofs.Ranges.{accepted-ranges}
 use Rattle.book.proofs.TableFields.{table-members}
 use Rattle.balance.specs.Rates.{maxRate, ratesAt}
 use Rattle.balance.specs.Chain.{chainOf}
-use Rattle.balance.specs.Balance.{G}
-use Rattle.balance.specs.Factors.{factorsAt, factorAt, writtenIf, factorList}
+use Rattle.balance.specs.Factors.{factorsAt, writtenIf, factorList}
 use Rattle.balance.proofs.Reported.{reported-factor}
 use Rattle.balance.proofs.CallPasses.{CallPasses, passing-call}
 use Rattle.balance.proofs.CallAnswers.{factors-length}
 use Rattle.balance.proofs.Promised.{factor-at-most-G}
-use Rattle.text.specs.Words.{decimal, each}
+use Rattle.text.specs.Words.{decimal}
 use Rattle.text.proofs.Pieces.{each-as-long}
 use Rattle.entry.proofs.Promised.{entry-nine}
 use Rattle.tables.specs.Table.{spacedEntry, rateLine}

@@ -4,7 +4,7 @@ use mathlib.Core.Bool.{Bool}
 use mathlib.Core.List.{List, [], _∷_, _++_}
 use lib.ListN.{length, getD}
 use lib.Dec.{ltb}
-use Rattle.refusals.specs.Grounds.{Ground, ground, firstMet}
+use Rattle.refusals.specs.Grounds.{Ground, ground, firstMet, refusalNumber}
 use Rattle.refusals.specs.declared.Checked.{Checked}
 use Rattle.refusals.specs.declared.Refusal.the-variants.{RateTooHigh, RateCountOutOfRange, BufferTooShort}
 use Rattle.book.specs.Limits.{maxMembers}
@@ -42,8 +42,8 @@ tableGrounds rates book room =
 
 -- The answer is the text's length; a refusal is the refusal alone.
 abbrev pub tabledIf : Checked → ℕ → TableAnswer
-tabledIf Checked.Passed length = TableAnswer.Written length
-tabledIf (Checked.Refused r) length = TableAnswer.Refused r
+tabledIf Checked.Passed n = TableAnswer.Written n
+tabledIf (Checked.Refused r) n = TableAnswer.Refused r
 
 abbrev pub tableAnswer : List ℕ → List ℕ → ℕ → TableAnswer
 tableAnswer rates book room = tabledIf (firstMet (tableGrounds rates book room)) (length (tableText book rates))
@@ -51,3 +51,8 @@ tableAnswer rates book room = tabledIf (firstMet (tableGrounds rates book room))
 -- Bytes past the text are untouched, and a refusal touches none.
 abbrev pub tableBuffer : List ℕ → List ℕ → List ℕ → List ℕ
 tableBuffer rates book list = writtenIf (firstMet (tableGrounds rates book (length list))) (tableText book rates) list
+
+-- The number for an answer: the text's length, or that of the refusal.
+abbrev pub tableAnswerNumber : TableAnswer → ℕ
+tableAnswerNumber (TableAnswer.Written n) = n
+tableAnswerNumber (TableAnswer.Refused r) = refusalNumber r

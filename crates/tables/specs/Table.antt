@@ -9,10 +9,11 @@ use Rattle.entry.specs.Entry.{entryOf}
 abbrev pub spacedEntry : ℕ → ℕ → List ℕ
 spacedEntry member factor = ascii " " ++ entryOf factor
 
--- The rate as whole hundredths, then the factor of each member.
+-- The rate as whole hundredths, then the factor of each member, and a line feed last.
 abbrev pub lineOf : ℕ → List ℕ → List ℕ
 lineOf v factors = decimal v ++ each spacedEntry 0 factors ++ lineFeed
 
+-- The line of a rate, whichever of the list it is.
 abbrev pub rateLine : List ℕ → ℕ → ℕ → List ℕ
 rateLine book k v = lineOf v (factorsAt book v)
 

@@ -2,11 +2,9 @@
 use book::member_count;
 use entry::ENTRY_LENGTH;
 use text::decimal_length;
-ghost use Prim.Native.Nat.{_≤_};
 ghost use mathlib.Core.Path.{_≡_};
 ghost use lib.ListN.{length};
 ghost use Rattle.tables.specs.Table.{tableText};
-ghost use Rattle.tables.specs.Answers.{tableRoom};
 ghost use Rattle.tables.specs.Private.Tabulable.{Tabulable};
 
 pub(crate) fn table_length(rates: &[u32], book: &[u8]) -> usize

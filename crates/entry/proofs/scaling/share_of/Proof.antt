@@ -1,5 +1,5 @@
 -- `entry::scaling::share_of` meets its contract: it makes the share ten times as fine as long as the definition does.
-use Prim.Native.Nat.{_*_, _-_, _≤_, _<_}
+use Prim.Native.Nat.{_*_, _-_, _≤_}
 use mathlib.Core.Path.{_∙_}
 use native.Mathlib.Omega.{arith}
 use borrow.Author.Needs.{needs}

@@ -1,4 +1,4 @@
--- A turn adds the length of one line.
+-- A turn adds the length of one line. None is longer than 181: at most 20 digits, 16 entries with their spaces, and a line feed.
 use Prim.Native.Nat.{ℕ, _+_, _-_, _*_, _≤_}
 use mathlib.Core.Path.{_≡_, ap}
 use mathlib.Core.List.{List}
