@@ -60,7 +60,7 @@ GROUNDS = {
 class Refused(ValueError):
     """A job, a factor call or a table that is refused, for the first of the grounds that is met.
 
-    `number` is the ground's number, the one that a report prints, and `sentence` says what is wrong.
+    `number` is the ground's number, the one that a refused report prints, and `sentence` says what is wrong.
     """
 
     number: int

@@ -1,4 +1,4 @@
-"""docs/FORMAT.md against the packer and the reference: its dump, its report and its offsets.
+"""docs/FORMAT.md against the packer and the reference: its dump, its report, its offsets and its entries of a table.
 
     test_format.py
 """
@@ -57,6 +57,17 @@ def test_offsets():
         assert [offset for offset, _ in rows] == [sum(size for _, size in rows[:i]) for i in range(len(rows))]
         assert sum(size for _, size in rows) == struct.calcsize(form) == len(data)
         assert [size for _, size in rows] == field_sizes(form)
+
+
+def test_entries():
+    """Each factor is printed as the page says, and the longest table has the length that it says."""
+    shown = re.findall(r"^\| ([\d,]+) \| \S+ \| (\S{9}) \|$", PAGE, re.MULTILINE)
+    assert len(shown) == 6
+    for grains, printed in shown:
+        assert ref.entry(int(grains.replace(",", ""))) == printed, grains
+    members = [pack_member(1)] + [pack_member(1, first=i) for i in range(1, 16)]
+    longest = ref.table_call([100_000] * 200, pack_book(members, [pack_feed(1, 0)] * 15), 40_000)
+    assert len(longest) == 33_400 and "than 33,400 bytes" in PAGE
 
 
 def field_sizes(form):

@@ -5,7 +5,7 @@ use core::fmt;
 /// Lists the grounds once: the enum with its documentation, the list of all, and each one's sentence.
 macro_rules! grounds {
     ($($name:ident = $number:literal, $sentence:literal;)*) => {
-        /// Why a factor call, a job or a table is refused, in checking order; each has the number that a report prints.
+        /// Why a factor call, a job or a table is refused, in checking order, each with its number.
         #[derive(Clone, Copy, Debug, PartialEq, Eq, Hash)]
         #[non_exhaustive]
         #[repr(u32)]
@@ -52,7 +52,7 @@ grounds! {
 }
 
 impl Refusal {
-    /// The number that a report prints.
+    /// The ground's number, which a refused report prints.
     pub fn number(self) -> u32 {
         self as u32
     }
