@@ -1,4 +1,4 @@
--- A rate that is accepted has at most six digits, and an accepted book at most 16 members, so no line has more than 167 characters. A text is written only
+-- A rate that is accepted has at most six digits, and an accepted book at most 16 members, so no line is longer than its room. A text is written only
 -- where every ground passes, the last among them; and with room for the longest the last ground is never met.
 use Prim.Native.Nat.{ℕ, _≤_}
 use native.Mathlib.Omega.{arith}
@@ -18,7 +18,7 @@ use Rattle.balance.specs.Rates.{maxRate}
 use Rattle.text.proofs.Digits.{decimal-below}
 use Rattle.text.proofs.Pieces.{each-at-most}
 use Rattle.tables.specs.Table.{rateLine, tableText}
-use Rattle.tables.specs.Answers.{tableRoom, bufferTooShort, tableGrounds, tabledIf, tableAnswer}
+use Rattle.tables.specs.Answers.{lineRoom, tableRoom, bufferTooShort, tableGrounds, tabledIf, tableAnswer}
 use Rattle.tables.specs.Promises.{TablePromises}
 use Rattle.tables.specs.Private.Tabulable.{earlierGrounds, Tabulable}
 use Rattle.tables.specs.declared.TableAnswer.{TableAnswer}
@@ -29,10 +29,10 @@ use Rattle.tables.proofs.ByChecks.{tabulable}
 pub table-fits : (rates book : List ℕ) → Tabulable rates book → length (tableText book rates) ≤ tableRoom
 table-fits rates book given =
     let few = accepted-ranges book (given .accepted) .members-count .to in
-    let line : (k v : ℕ) → v ≤ maxRate → length (rateLine book k v) ≤ 167 =
+    let line : (k v : ℕ) → v ≤ maxRate → length (rateLine book k v) ≤ lineRoom =
     λ k v low. omega (arith, line-length book (given .accepted) v k, decimal-below 5 v (omega arith))
     in
-    let all = each-at-most (rateLine book) (λ v. v ≤ maxRate) 167 line 0 rates (rate-low rates (given .rates-low)) in
+    let all = each-at-most (rateLine book) (λ v. v ≤ maxRate) lineRoom line 0 rates (rate-low rates (given .rates-low)) in
     omega (arith, given .few)
 
 tabled-passed : (found : Checked) (size n : ℕ) → tabledIf found size ≡ TableAnswer.Written n → (found ≡ Checked.Passed) × (size ≡ n)

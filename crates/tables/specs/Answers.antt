@@ -18,9 +18,12 @@ use Rattle.tables.specs.declared.TableAnswer.{TableAnswer}
 abbrev pub maxRates : ℕ
 maxRates = 200
 
--- No text is longer: 200 lines of a rate, at most six digits, a space and nine characters for each of 16 members, and a line feed.
+-- No line is longer: a rate of at most six digits, a space and nine characters for each member, and a line feed. So no text is longer.
+abbrev pub lineRoom : ℕ
+lineRoom = 6 + maxMembers * (1 + 9) + 1
+
 abbrev pub tableRoom : ℕ
-tableRoom = maxRates * (6 + maxMembers * (1 + 9) + 1)
+tableRoom = maxRates * lineRoom
 
 -- 3. A rate exceeds 100,000.
 unfoldable pub someRateTooHigh : List ℕ → Bool

@@ -1,19 +1,23 @@
--- A turn adds the length of one line. None is longer than 181: at most 20 digits, 16 entries with their spaces, and a line feed.
+-- A turn adds the length of one line. None is longer than `most`: the digits that any number of 64 bits has, the entries of 16 members with their spaces, and a line feed.
 use Prim.Native.Nat.{ℕ, _+_, _-_, _*_, _≤_}
 use mathlib.Core.Path.{_≡_, ap}
 use mathlib.Core.List.{List}
 use lib.ListN.{length}
 use borrow.Author.Needs.{needs}
 use native.Mathlib.Omega.{arith}
+use Rattle.book.specs.Limits.{maxMembers}
 use Rattle.book.specs.Fields.{members}
 use Rattle.book.specs.BookGrounds.{Accepted}
 use Rattle.book.proofs.Ranges.{accepted-ranges}
-use Rattle.text.specs.Words.{decimal}
+use Rattle.text.specs.Words.{mostDigits, decimal}
 use Rattle.text.proofs.Pieces.{Measuring, unmeasured, measured-more, measured-all}
 use Rattle.tables.specs.Table.{rateLine}
 use Rattle.tables.proofs.RateLine.{line-length}
 use Rattle.tables.proofs.lengths.table_length.Statement.{statement}
 use Rattle.tables.proofs.lengths.table_length.Tie as tie
+
+abbrev most : ℕ
+most = mostDigits + (maxMembers * 10 + 1)
 
 measured :
     (book : List ℕ) → Accepted book → {v w digits n : ℕ} → w ≡ v → digits ≡ length (decimal w) → n ≡ members book →
@@ -21,15 +25,15 @@ measured :
 measured book accepted {v} is counted count = omega (arith, line-length book accepted v 0, ap (λ x. length (decimal x)) is)
 
 abbrev Inv-loop : tie.InvT-loop
-Inv-loop rates book entries total₀ i₀ total i = Measuring (rateLine book) rates 181 i total
+Inv-loop rates book entries total₀ i₀ total i = Measuring (rateLine book) rates most i total
 
 abbrev μ-loop : tie.MeasureT-loop
 μ-loop rates book entries total₀ i₀ total i = length rates - i
 
 loop-holds : tie.Need-loop-holds Inv-loop μ-loop
-loop-holds c = let args = c .before .before .before .args in unmeasured (rateLine (args .book .now)) (args .rates .now) 181
+loop-holds c = let args = c .before .before .before .args in unmeasured (rateLine (args .book .now)) (args .rates .now) most
 
-few-entries : (book : List ℕ) {n : ℕ} → Accepted book → n ≡ members book → n * 10 + 1 ≤ 161
+few-entries : (book : List ℕ) {n : ℕ} → Accepted book → n ≡ members book → n * 10 + 1 ≤ maxMembers * 10 + 1
 few-entries book accepted count = omega (arith, accepted-ranges book accepted .members-count .to)
 
 add-total-2 : tie.Need-add-total-2 Inv-loop μ-loop
