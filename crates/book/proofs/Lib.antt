@@ -4,6 +4,8 @@
 pub mod NoneMet
 pub mod BookPasses
 pub mod Ranges
+-- What is found of a book that is too long.
+pub mod LongBook
 -- The loops of the checks, and sums.
 pub mod Sums
 pub mod Tested

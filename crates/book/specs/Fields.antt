@@ -1,7 +1,7 @@
 -- The fields of a chain book (document 01, "Book and job").
 use Prim.Native.Nat.{ℕ, _+_, _*_, zero, suc}
 use mathlib.Core.List.{List, [], _∷_}
-use Rattle.book.specs.Limits.{wholeShare}
+use Rattle.book.specs.Limits.{maxMembers, maxFeeds, wholeShare}
 use Rattle.book.specs.Bytes.{u8At, u16At, u32At, u64At}
 
 -- The sizes in bytes of the header, of a member and of a feed.
@@ -83,6 +83,10 @@ feedZeroCount = 2
 -- 8 + 32n + 8m.
 abbrev pub bookLength : List ℕ → ℕ
 bookLength book = headerLength + memberLength * members book + feedLength * feedCount book
+
+-- The most bytes that an accepted book has; one more is all that a program need read of a book.
+abbrev pub longestBook : ℕ
+longestBook = headerLength + memberLength * maxMembers + feedLength * maxFeeds
 
 -- The feeds from j on: j, then along next; zero ends the chain. At most so many are listed.
 unfoldable pub along : (ℕ → ℕ) → ℕ → ℕ → List ℕ

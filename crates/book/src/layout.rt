@@ -1,9 +1,26 @@
 // Where the fields of a chain book stand, as specs/Fields.antt has them.
+use super::limits::MAX_FEEDS;
+use super::limits::MAX_MEMBERS;
+ghost use mathlib.Core.Path.{_≡_};
+ghost use Rattle.book.specs.Fields.{longestBook};
+
 pub const HEADER_LENGTH: u32 = 8;
 
 pub const MEMBER_LENGTH: u32 = 32;
 
 pub const FEED_LENGTH: u32 = 8;
+
+// The most bytes that an accepted book has.
+pub const LONGEST_BOOK: usize = HEADER_LENGTH as usize
+    + MEMBER_LENGTH as usize * MAX_MEMBERS
+    + FEED_LENGTH as usize * MAX_FEEDS;
+
+// The constant is the definition's.
+fn longest_book() -> usize
+    ensures { λ r. ⌜ r ≡ longestBook ⌝ }
+{
+    LONGEST_BOOK
+}
 
 // How many numbers a member has: four coefficients and an alpha energy weight.
 pub const COEFFICIENTS: usize = 5;

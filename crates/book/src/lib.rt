@@ -16,6 +16,7 @@ pub use counts::member_count;
 pub use layout::COEFFICIENTS;
 pub use layout::FEED_LENGTH;
 pub use layout::HEADER_LENGTH;
+pub use layout::LONGEST_BOOK;
 pub use layout::MEMBER_LENGTH;
 pub use limits::MAX_COEFFICIENT;
 pub use limits::MAX_FEEDS;

@@ -6,18 +6,15 @@ use native.Mathlib.Omega.{arith}
 use mathlib.Core.Path.{_≡_, refl, ap, ap₂, sym, _∙_}
 use mathlib.Core.Bool.{Bool, true, false, not, cond, _||_}
 use mathlib.Core.List.{List, [], _∷_}
-use lib.Dec.{ltb, eqb}
+use lib.Dec.{ltb}
 use lib.ListN.{length, getD, take, length-drop}
 use lib.Seq.{getD-take, getD-drop, length-take-le}
-use borrow.Author.Tests.{ltb-false, le-ltb, ne-eqb}
+use borrow.Author.Tests.{le-ltb}
 use Rattle.refusals.specs.Grounds.{ground, firstMet, orElse}
 use Rattle.refusals.specs.declared.Checked.{Checked}
 use Rattle.refusals.specs.declared.Refusal.{Refusal}
-use Rattle.refusals.proofs.FirstMet.{neither}
-use Rattle.book.specs.Limits.{maxMembers, maxFeeds}
-use Rattle.book.specs.Fields.{headerLength, memberLength, feedLength, members, feedCount}
-use Rattle.book.specs.Tests.{outside}
-use Rattle.book.specs.BookGrounds.{bookTooShort, countOutOfRange, bookLengthWrong, bookGrounds}
+use Rattle.book.specs.Fields.{longestBook}
+use Rattle.book.proofs.LongBook.{groundOfLong, long-book}
 use Rattle.balance.specs.Rates.{maxRate}
 use Rattle.screening.specs.Job.{rate, target, exposureOf, jobLength, bookOf}
 use Rattle.exposure.specs.Exposure.{exposureOutOfRange}
@@ -28,43 +25,11 @@ use Rattle.screening.proofs.JobChecks.{checked-by-parts}
 use Rattle.screening.proofs.SameBytes.{SameFields, codes-same, target-same, attenuation-same, exposure-same, reading-found-same}
 use Rattle.report.specs.Report.{textOf, reportOf, longestJob}
 
--- The most bytes that a book can have.
-abbrev longestBook : ℕ
-longestBook = headerLength + memberLength * maxMembers + feedLength * maxFeeds
-
 -- Two inputs too long to be accepted, with the same job and the same counts of members and feeds.
 record SameStart (a b : List ℕ) : Type 0 where
   byte : (k : ℕ) → k < jobLength + 2 → getD a k 0 ≡ getD b k 0
   first-long : longestJob < length a
   second-long : longestJob < length b
-
--- The ground on which a longer book is refused.
-abbrev groundOfLong : ℕ → ℕ → Refusal
-groundOfLong n m = cond (outside 1 maxMembers n || ltb maxFeeds m) Refusal.CountOutOfRange Refusal.BookLengthWrong
-
-length-wrong :
-    (n m size : ℕ) → longestBook < size → (outside 1 maxMembers n || ltb maxFeeds m) ≡ false →
-    not (eqb size (headerLength + memberLength * n + feedLength * m)) ≡ true
-length-wrong n m size long counts =
-    let both = neither (outside 1 maxMembers n) (ltb maxFeeds m) counts in
-    let few = neither (ltb n 1) (ltb maxMembers n) (both .0) in
-    ap not
-    (ne-eqb size (headerLength + memberLength * n + feedLength * m)
-    (λ e. omega (arith, ltb-false maxMembers n (few .1), ltb-false maxFeeds m (both .1))))
-
-count-or-length :
-    (short counts wrong : Bool) (first second third : Refusal) (rest : Checked) → short ≡ false → (counts ≡ false → wrong ≡ true) →
-    cond short (Checked.Refused first) (cond counts (Checked.Refused second) (cond wrong (Checked.Refused third) rest))
-    ≡ Checked.Refused (cond counts second third)
-count-or-length short true wrong first second third rest long otherwise = rw long
-count-or-length short false wrong first second third rest long otherwise = rw (long, otherwise refl)
-
-long-book : (book : List ℕ) → longestBook < length book → firstMet (bookGrounds book) ≡ Checked.Refused (groundOfLong (members book) (feedCount book))
-unfolding bookTooShort countOutOfRange bookLengthWrong
-long-book book long =
-    count-or-length (bookTooShort book) (countOutOfRange book) (bookLengthWrong book) _ _ _ _
-    (le-ltb (length book) headerLength (omega arith))
-    (length-wrong (members book) (feedCount book) (length book) long)
 
 -- What a job's checks find where its book is refused.
 abbrev found : Checked → Checked → Refusal → Checked

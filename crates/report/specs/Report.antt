@@ -3,8 +3,8 @@ use Prim.Native.Nat.{ℕ, _+_, _*_}
 use Prim.Native.String.{String}
 use mathlib.Core.List.{List, _++_}
 use lib.ListN.{length, take}
-use Rattle.book.specs.Limits.{maxMembers, maxFeeds}
-use Rattle.book.specs.Fields.{headerLength, memberLength, feedLength}
+use Rattle.book.specs.Limits.{maxMembers}
+use Rattle.book.specs.Fields.{longestBook}
 use Rattle.text.specs.Words.{ascii, mostDigits, decimal, lineFeed, line, each}
 use Rattle.refusals.specs.Grounds.{refusalNumber}
 use Rattle.screening.specs.Job.{jobLength}
@@ -74,4 +74,4 @@ reportRoom = maxMembers * factorLineRoom + figuresRoom
 
 -- The most bytes that an accepted job has with its book; one more is all that a program need read of an input.
 abbrev pub longestJob : ℕ
-longestJob = jobLength + headerLength + memberLength * maxMembers + feedLength * maxFeeds
+longestJob = jobLength + longestBook

@@ -4,11 +4,8 @@ ghost use mathlib.Core.Path.{_≡_};
 ghost use lib.ListN.{length};
 ghost use Rattle.book.specs.Limits.{maxMembers};
 ghost use Rattle.report.specs.Report.{factorLines, figureLines, workingLines, factorLineRoom, figuresRoom, workingRoom, longestJob};
-use book::FEED_LENGTH;
-use book::HEADER_LENGTH;
-use book::MAX_FEEDS;
+use book::LONGEST_BOOK;
 use book::MAX_MEMBERS;
-use book::MEMBER_LENGTH;
 use screening::Figures;
 use screening::JOB_LENGTH;
 use screening::WorkingLevels;
@@ -37,10 +34,7 @@ pub const REPORT_ROOM: usize = MAX_MEMBERS * (FACTOR_WORDS + 2 * MOST_DIGITS)
     + 4 * MOST_DIGITS;
 
 // The most bytes that an accepted job has with its book.
-pub const LONGEST_JOB: usize = JOB_LENGTH
-    + HEADER_LENGTH as usize
-    + MEMBER_LENGTH as usize * MAX_MEMBERS
-    + FEED_LENGTH as usize * MAX_FEEDS;
+pub const LONGEST_JOB: usize = JOB_LENGTH + LONGEST_BOOK;
 
 // The constant is the definition's.
 fn longest_job() -> usize

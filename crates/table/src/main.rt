@@ -1,11 +1,7 @@
 // Writes the table of the chain book in a file, at the rates that follow its name, or at those of source 000's radon table where none do.
 mod rates;
 
-use book::FEED_LENGTH;
-use book::HEADER_LENGTH;
-use book::MAX_FEEDS;
-use book::MAX_MEMBERS;
-use book::MEMBER_LENGTH;
+use book::LONGEST_BOOK;
 use libc::STDERR_FILENO;
 use libc::STDOUT_FILENO;
 use rates::read_rates;
@@ -15,10 +11,7 @@ use tables::TableAnswer;
 use tables::tabulate;
 
 // One byte more than the longest book that can be accepted: a longer one is refused as its first bytes are.
-const ENOUGH: usize = HEADER_LENGTH as usize
-    + MEMBER_LENGTH as usize * MAX_MEMBERS
-    + FEED_LENGTH as usize * MAX_FEEDS
-    + 1;
+const ENOUGH: usize = LONGEST_BOOK + 1;
 
 // More than a table has, so that it is the library that refuses a list that is too long.
 const MOST_RATES: usize = 1000;

@@ -2,4 +2,5 @@
 pub mod Rates
 pub mod RateLine
 pub mod ByChecks
+pub mod LongBooks
 pub mod Promised

@@ -25,6 +25,7 @@ use Rattle.tables.specs.declared.TableAnswer.{TableAnswer}
 use Rattle.tables.proofs.Rates.{rate-low}
 use Rattle.tables.proofs.RateLine.{line-length}
 use Rattle.tables.proofs.ByChecks.{tabulable}
+use Rattle.tables.proofs.LongBooks.{long-book-alike}
 
 pub table-fits : (rates book : List ℕ) → Tabulable rates book → length (tableText book rates) ≤ tableRoom
 table-fits rates book given =
@@ -77,4 +78,4 @@ module _ (rates book : List ℕ) (room : ℕ) where
       omega (arith, table-fits rates book (tabulable rates book (found .0)))
 
 pub table-promises : TablePromises
-table-promises = record { within = within; enough = enough }
+table-promises = record { within = within; enough = enough; long-book = long-book-alike }
