@@ -4,7 +4,7 @@ use mathlib.Core.Path.{_≡_, refl, sym, ap, _∙_}
 use mathlib.Core.Bool.{Bool, true, false, cond}
 use mathlib.Core.List.{List, [], _∷_}
 use lib.ListN.{length, take}
-use Rattle.refusals.specs.Grounds.{Ground, ground, firstMet, orElse}
+use Rattle.refusals.specs.Grounds.{ground, firstMet, orElse}
 use Rattle.refusals.specs.declared.Checked.{Checked}
 use Rattle.refusals.specs.declared.Refusal.{Refusal}
 use Rattle.refusals.specs.declared.Refusal.the-variants.{RateTooHigh, RateCountOutOfRange, BufferTooShort}
@@ -15,7 +15,6 @@ use Rattle.book.proofs.LongBook.{groundOfLong, long-book, long-book-cut}
 use Rattle.balance.specs.Factors.{writtenIf}
 use Rattle.tables.specs.Table.{tableText}
 use Rattle.tables.specs.Answers.{someRateTooHigh, rateCountOutOfRange, bufferTooShort, tableGrounds, tabledIf, tableAnswer, tableBuffer}
-use Rattle.tables.specs.declared.TableAnswer.{TableAnswer}
 
 -- What the call finds where its book is refused.
 abbrev foundWith : List ℕ → Refusal → Checked
