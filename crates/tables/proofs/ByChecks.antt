@@ -53,15 +53,16 @@ module _ (rates book : List ℕ) where
       let counted = neither (ltb (length rates) 1) (ltb maxRates (length rates)) (not-met (rateCountOutOfRange rates) _ _ (rest .1) .0) in
       record { rates-low = rate .0; accepted = rest .0; few = ltb-false maxRates (length rates) (counted .1) }
 
-  module _ (list : List ℕ) {found : Checked} (checked : found ≡ firstMet (earlierGrounds rates book)) where
-    last : Checked
-    last = cond (bufferTooShort rates book (length list)) (Checked.Refused BufferTooShort) Checked.Passed
+  -- What the last check finds, and what all of them find.
+  abbrev pub last : ℕ → Checked
+  last room = cond (bufferTooShort rates book room) (Checked.Refused BufferTooShort) Checked.Passed
 
-    all-found : {result : Checked} → found ≡ result → firstMet (tableGrounds rates book (length list)) ≡ orElse result last
-    unfolding last
-    all-found is =
-        first-of-both (earlierGrounds rates book) (ground BufferTooShort (bufferTooShort rates book (length list)) ∷ [])
-        ∙ ap (λ f. orElse f last) (sym checked ∙ is)
+  pub in-two : (room : ℕ) → firstMet (tableGrounds rates book room) ≡ orElse (firstMet (earlierGrounds rates book)) (last room)
+  in-two room = first-of-both (earlierGrounds rates book) (ground BufferTooShort (bufferTooShort rates book room) ∷ [])
+
+  module _ (list : List ℕ) {found : Checked} (checked : found ≡ firstMet (earlierGrounds rates book)) where
+    all-found : {result : Checked} → found ≡ result → firstMet (tableGrounds rates book (length list)) ≡ orElse result (last (length list))
+    all-found is = in-two (length list) ∙ ap (λ f. orElse f (last (length list))) (sym checked ∙ is)
 
     pub refused-table :
         {r : Refusal} → found ≡ Checked.Refused r →
@@ -74,7 +75,6 @@ module _ (rates book : List ℕ) where
         {answer : TableAnswer} {now : List ℕ} → found ≡ Checked.Passed →
         answer ≡ fittingAnswer (tableText book rates) (length list) → now ≡ bytesWritten (tableText book rates) list →
         (answer ≡ tableAnswer rates book (length list)) × (now ≡ tableBuffer rates book list)
-    unfolding last
     passed-table passed answered left =
         let all = all-found passed in
         let short = bufferTooShort rates book (length list) in (

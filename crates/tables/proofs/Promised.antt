@@ -24,7 +24,7 @@ use Rattle.tables.specs.Private.Tabulable.{earlierGrounds, Tabulable}
 use Rattle.tables.specs.declared.TableAnswer.{TableAnswer}
 use Rattle.tables.proofs.Rates.{rate-low}
 use Rattle.tables.proofs.RateLine.{line-length}
-use Rattle.tables.proofs.ByChecks.{tabulable}
+use Rattle.tables.proofs.ByChecks.{tabulable, in-two}
 use Rattle.tables.proofs.LongBooks.{long-book-alike}
 
 pub table-fits : (rates book : List ℕ) → Tabulable rates book → length (tableText book rates) ≤ tableRoom
@@ -56,16 +56,10 @@ was-short true e = refl
 was-short false e = absurd (let z : _≡_ {A = ℕ} 0 1 = cc in omega arith)
 
 module _ (rates book : List ℕ) (room : ℕ) where
-  -- What the checks find before the last, and the last.
-  in-two :
-      firstMet (tableGrounds rates book room)
-      ≡ orElse (firstMet (earlierGrounds rates book)) (cond (bufferTooShort rates book room) (Checked.Refused BufferTooShort) Checked.Passed)
-  in-two = first-of-both (earlierGrounds rates book) (ground BufferTooShort (bufferTooShort rates book room) ∷ [])
-
   within : (n : ℕ) → tableAnswer rates book room ≡ TableAnswer.Written n → (n ≤ room) × (n ≤ tableRoom)
   within n answered =
       let passed = tabled-passed (firstMet (tableGrounds rates book room)) (length (tableText book rates)) n answered in
-      let both = both-pass (firstMet (earlierGrounds rates book)) _ (sym in-two ∙ passed .0) in
+      let both = both-pass (firstMet (earlierGrounds rates book)) _ (sym (in-two rates book room) ∙ passed .0) in
       let room-for-all = ltb-false room (length (tableText book rates)) (not-met (bufferTooShort rates book room) _ _ (both .1) .0) in
       let size = passed .1 in
       (omega arith, omega (arith, table-fits rates book (tabulable rates book (both .0))))
@@ -73,7 +67,7 @@ module _ (rates book : List ℕ) (room : ℕ) where
   enough : tableRoom ≤ room → tableAnswer rates book room ≡ TableAnswer.Refused BufferTooShort → ⊥
   enough large answered =
       let refused = tabled-refused (firstMet (tableGrounds rates book room)) (length (tableText book rates)) answered in
-      let found = from-last (firstMet (earlierGrounds rates book)) (λ e. other-number 21 (earlierGrounds rates book) refl e refl) (sym in-two ∙ refused) in
+      let found = from-last (firstMet (earlierGrounds rates book)) (λ e. other-number 21 (earlierGrounds rates book) refl e refl) (sym (in-two rates book room) ∙ refused) in
       let short = ltb-true room (length (tableText book rates)) (was-short (bufferTooShort rates book room) (found .1)) in
       omega (arith, table-fits rates book (tabulable rates book (found .0)))
 
