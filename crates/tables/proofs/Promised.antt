@@ -4,14 +4,14 @@ use Prim.Native.Nat.{ℕ, _≤_}
 use native.Mathlib.Omega.{arith}
 use mathlib.Core.Path.{_≡_, refl, sym, _∙_}
 use mathlib.Core.Bool.{Bool, true, false, cond}
-use mathlib.Core.List.{List, [], _∷_}
+use mathlib.Core.List.{List}
 use lib.ListN.{length}
 use borrow.Author.Tests.{ltb-true, ltb-false}
-use Rattle.refusals.specs.Grounds.{ground, firstMet, orElse}
+use Rattle.refusals.specs.Grounds.{firstMet, orElse}
 use Rattle.refusals.specs.declared.Checked.{Checked}
 use Rattle.refusals.specs.declared.Refusal.{Refusal}
 use Rattle.refusals.specs.declared.Refusal.the-variants.{BufferTooShort}
-use Rattle.refusals.proofs.FirstMet.{first-of-both, both-pass, not-met}
+use Rattle.refusals.proofs.FirstMet.{both-pass, not-met}
 use Rattle.refusals.proofs.OtherNumber.{other-number}
 use Rattle.book.proofs.Ranges.{accepted-ranges}
 use Rattle.balance.specs.Rates.{maxRate}
