@@ -1,12 +1,11 @@
--- A factor's share is scaled by ten as long as it keeps four digits. One place more would give five, and so would every finer one,
--- so the exponent where that ends is the definition's. A factor is at least one grain, so no more than 13 places are passed.
+-- A factor's share is scaled by ten as long as it keeps four digits. Where one place more would give five, so would every finer one: there is one
+-- such exponent, and the definition's is it. A factor is at least one grain, so no more than 13 places are passed.
 use Prim.Native.Nat.{ℕ, zero, suc, _+_, _*_, _^_, _≤_, _<_}
-use native.Mathlib.Nat.{pow-suc, pow-le-pow-right, mul-le-mul-left, eq-or-lt-of-le, le-trans}
+use native.Mathlib.Nat.{pow-suc, pow-le-pow-right, mul-le-mul-left, le-trans, le-antisymm}
 use native.Mathlib.Decide.{decLe, decLt}
 use native.Mathlib.Numerals.{add-one}
 use native.Mathlib.Omega.{arith}
 use mathlib.Core.Path.{_≡_, refl, ap, _∙_}
-use mathlib.Core.Logic.{_⊎_, inl, inr}
 use borrow.Author.Tests.{lt-ltb, le-ltb}
 use Rattle.rounding.specs.Nearest.{nearest}
 use Rattle.rounding.proofs.Between.{nearest-between, nearest-rises}
@@ -16,23 +15,8 @@ use Rattle.entry.specs.Entry.{fiveDigits, thousandths, exponentUpTo, exp
 pub power-next : (e : ℕ) → 10 ^ (suc e + 3) ≡ 10 ^ (e + 3) * 10
 power-next e = let n : suc e + 3 ≡ suc (e + 3) = omega arith in rw n (pow-suc 10 (e + 3))
 
-module _ (x : ℕ) where
-  finer-has-more : {e k : ℕ} → e ≤ k → thousandths x e ≤ thousandths x k
-  finer-has-more {e} {k} le = nearest-rises G (omega arith) (mul-le-mul-left x (pow-le-pow-right {n = 10} (omega arith) (omega arith)))
-
-  finest : (n e : ℕ) → e ≤ n → thousandths x e < fiveDigits → fiveDigits ≤ thousandths x (suc e) → e ≡ exponentUpTo n x
-  unfolding exponentUpTo
-  finest zero e within four five = omega arith
-  finest (suc n) e within four five = by-order (eq-or-lt-of-le within) (finest n e)
-    where
-      by-order :
-          (e ≡ suc n) ⊎ (e < suc n) → (e ≤ n → thousandths x e < fiveDigits → fiveDigits ≤ thousandths x (suc e) → e ≡ exponentUpTo n x) →
-          e ≡ exponentUpTo (suc n) x
-      by-order (inl same) lower = let t = lt-ltb (thousandths x (suc n)) fiveDigits (rw same at four) in rw t same
-      by-order (inr less) lower =
-          let more = finer-has-more {e = suc e} {k = suc n} (omega arith) in
-          let t = le-ltb (thousandths x (suc n)) fiveDigits (omega arith) in
-          rw t (lower (omega arith) four five)
+finer-has-more : (x : ℕ) {e k : ℕ} → e ≤ k → thousandths x e ≤ thousandths x k
+finer-has-more x le = nearest-rises G (omega arith) (mul-le-mul-left x (pow-le-pow-right {n = 10} (omega arith) (omega arith)))
 
 -- At the exponent there are no more than four digits, and one place more gives five.
 pub record Turn (x e : ℕ) : Type 0 where
@@ -40,6 +24,18 @@ pub record Turn (x e : ℕ) : Type 0 where
   pub five : fiveDigits ≤ thousandths x (suc e)
   pub within : e ≤ 99
 
+-- There is one such exponent only, since a finer one has no fewer digits.
+no-later : {x e k : ℕ} → Turn x e → Turn x k → e ≤ k
+no-later {x} {e} {k} s t = by-order (decLe e k)
+  where
+    by-order : Dec (e ≤ k) → e ≤ k
+    by-order (yes l) = l
+    by-order (no h) = absurd (omega (arith, s .four, t .five, finer-has-more x {e = suc k} {k = e} (omega arith)))
+
+turn-only : {x e k : ℕ} → Turn x e → Turn x k → e ≡ k
+turn-only s t = le-antisymm (no-later s t) (no-later t s)
+
+-- And the definition's is such a one.
 module _ {x : ℕ} (some : 0 < x) (whole : x ≤ G) where
   turn-up-to : (n : ℕ) → n ≤ 99 → fiveDigits ≤ thousandths x (suc n) → Turn x (exponentUpTo n x)
   unfolding exponentUpTo
@@ -61,13 +57,14 @@ module _ {x : ℕ} (some : 0 < x) (whole : x ≤ G) where
 
 pub record Scaling (x scaled e : ℕ) : Type 0 where
   pub some : 0 < x
+  pub whole : x ≤ G
   pub is : scaled ≡ x * 10 ^ (e + 3)
   pub four : nearest scaled G < fiveDigits
   pub few : e ≤ 13
 
 pub unscaled : {x : ℕ} → 0 < x → x ≤ G → Scaling x (x * 1000) 0
 unscaled {x} some whole =
-    record { some = some; is = refl; four = omega (arith, nearest-between (x * 1000) G (omega arith) .above); few = omega arith }
+    record { some = some; whole = whole; is = refl; four = omega (arith, nearest-between (x * 1000) G (omega arith) .above); few = omega arith }
 
 module _ {x scaled e : ℕ} (s : Scaling x scaled e) where
   pub scaled-small : scaled < fiveDigits * G
@@ -91,6 +88,7 @@ module _ {x scaled e : ℕ} (s : Scaling x scaled e) where
       let small : scaled * 10 < fiveDigits * G = omega (arith, nearest-between (scaled * 10) G (omega arith) .below) in
       record {
         some = s .some;
+        whole = s .whole;
         is = rw add-one tenfold;
         four = four;
         few = omega (arith, few-places small);
@@ -98,7 +96,8 @@ module _ {x scaled e : ℕ} (s : Scaling x scaled e) where
 
   pub exponent-found : fiveDigits ≤ nearest (scaled * 10) G → e ≡ exponent x
   exponent-found five =
-      finest x 99 e (omega (arith, s .few)) (rw (s .is) at (s .four)) (rw tenfold at five)
+      let here : Turn x e = record { four = rw (s .is) at (s .four); five = rw tenfold at five; within = omega (arith, s .few) } in
+      turn-only here (turn (s .some) (s .whole))
 
   pub digits-found : fiveDigits ≤ nearest (scaled * 10) G → nearest scaled G ≡ thousandths x (exponent x)
   digits-found five = ap (λ t. nearest t G) (s .is) ∙ ap (thousandths x) (exponent-found five)
