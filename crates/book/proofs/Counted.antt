@@ -1,63 +1,55 @@
--- An array of counts, one place for each byte. Counting along a chain adds, at every feed, how often it comes up there:
--- what is counted so far and what is still to come make the whole.
-use Prim.Native.Nat.{ℕ, _+_, _-_, _<_, _^_}
-use mathlib.Core.Path.{_≡_, refl, _∙_, ap}
+-- Counting one list and then another counts the two joined, and one feed raises its own place alone.
+use Prim.Native.Nat.{ℕ, _+_, _<_, min}
+use mathlib.Core.Path.{_≡_, refl}
 use mathlib.Core.Bool.{Bool, true, false, cond}
-use mathlib.Core.List.{List, []}
-use lib.ListN.{length, getD, set, length-set}
+use mathlib.Core.List.{List, [], _∷_, _++_}
+use lib.ListN.{length, getD, set, replicate, getD-replicate}
 use lib.Seq.{getD-set-same, getD-set-other}
 use lib.Dec.{eqb}
-use borrow.Author.Tests.{eqb-true, eqb-false}
+use borrow.Author.Tests.{eqb-true, eqb-false, eq-eqb, ne-eqb}
 use native.Mathlib.Omega.{arith}
-use Rattle.book.specs.Fields.{along}
 use Rattle.book.specs.BookGrounds.{occurrences}
-use Rattle.book.proofs.Occurrences.{at-most-one}
-use Rattle.book.proofs.Along.{along-end, along-cut, along-step}
+use Rattle.book.specs.Private.Counted.{Counted}
+
+pub occurrences-append : (x : ℕ) (a b : List ℕ) → occurrences x (a ++ b) ≡ occurrences x a + occurrences x b
+unfolding occurrences
+occurrences-append x [] b = omega arith
+occurrences-append x (y ∷ a) b = let ih = occurrences-append x a b in omega arith
+
+pub none : {counts : List ℕ} → Counted counts [] counts
+unfolding occurrences
+none = record { each = λ x b. omega arith }
 
 -- One more at place j is one more of j alone.
-module _ (counts : List ℕ) (x j : ℕ) (h : j < length counts) where
-  raised : (b : Bool) → eqb x j ≡ b → getD (set counts j (getD counts j 0 + 1)) x 0 ≡ getD counts x 0 + cond b 1 0
-  raised true e =
-      let same : x ≡ j = eqb-true x j e in
-      rw same (getD-set-same counts j (getD counts j 0 + 1) 0 h)
-  raised false e = omega (arith, getD-set-other counts j x (getD counts j 0 + 1) 0 (eqb-false x j e))
+module _ (counts : List ℕ) (x j times : ℕ) (h : j < length counts) (e : times ≡ min (getD counts j 0 + 1) 2) where
+  raised : (b : Bool) → eqb x j ≡ b → min (getD (set counts j times) x 0) 2 ≡ min (getD counts x 0 + cond b 1 0) 2
+  raised true t =
+      let same : x ≡ j = eqb-true x j t in
+      rw same (omega (arith, getD-set-same counts j times 0 h))
+  raised false t = omega (arith, getD-set-other counts j x times 0 (eqb-false x j t))
 
--- From the counts `before`, on a chain whose feeds are `whole`, with the feeds from j on still to come.
-pub record Counted (following : ℕ → ℕ) (before whole : List ℕ) (counts : List ℕ) (j left : ℕ) : Type 0 where
-  pub size : length counts ≡ 256
-  pub place : j < 256
-  pub room : (x : ℕ) → x < 256 → getD counts x 0 + left < 2 ^ 16
-  pub rest : (x : ℕ) → x < 256 → getD counts x 0 + occurrences x (along following left j) ≡ getD before x 0 + occurrences x whole
+pub one :
+    {counts : List ℕ} {j times : ℕ} →
+    j < length counts → times ≡ min (getD counts j 0 + 1) 2 → Counted counts (j ∷ []) (set counts j times)
+unfolding occurrences
+one {counts} {j} {times} h e = record { each = λ x b. omega (arith, raised counts x j times h e (eqb x j) refl) }
 
-pub start :
-    {following : ℕ → ℕ} {before : List ℕ} {j left left′ : ℕ} →
-    length before ≡ 256 → j < 256 → ((x : ℕ) → x < 256 → getD before x 0 + left < 2 ^ 16) → left ≡ left′ →
-    Counted following before (along following left′ j) before j left
-start {following} {before} {j} z p r e =
-    record { size = z; place = p; room = r; rest = λ x b. ap (λ l. getD before x 0 + occurrences x (along following l j)) e }
+pub joined :
+    {before feeds between more after : List ℕ} →
+    Counted before feeds between → Counted between more after → Counted before (feeds ++ more) after
+joined {before} {feeds} {between} {more} {after} s t =
+    record { each = λ x b. omega (arith, s .each x b, t .each x b, occurrences-append x feeds more) }
 
-module _ {following : ℕ → ℕ} {before whole counts : List ℕ} {j left : ℕ} (s : Counted following before whole counts j left) where
-  pub onward :
-      {j′ : ℕ} → 0 < j → 0 < left → j′ ≡ following j → j′ < 256 →
-      Counted following before whole (set counts j (getD counts j 0 + 1)) j′ (left - 1)
-  unfolding occurrences
-  onward {j′} h l n fits =
-      let inside : j < length counts = omega arith in
-      let step = along-step following left j h l in
-      record {
-        size = length-set counts j (getD counts j 0 + 1) ∙ s .size;
-        place = fits;
-        room = λ x b. omega (arith, raised counts x j inside (eqb x j) refl, at-most-one (eqb x j), s .room x b);
-        rest = λ x b.
-            rw n (omega (arith, raised counts x j inside (eqb x j) refl, ap (λ feeds. occurrences x feeds) step, s .rest x b));
-      }
+-- A number is 1 where it is when cut at 2.
+one-when-cut : (a b : ℕ) → min a 2 ≡ min b 2 → (t : Bool) → eqb b 1 ≡ t → eqb a 1 ≡ t
+one-when-cut a b h true e = eq-eqb a 1 (omega (arith, eqb-true b 1 e))
+one-when-cut a b h false e = ne-eqb a 1 (λ q. eqb-false b 1 e (omega arith))
 
-  ended : along following left j ≡ [] → (x : ℕ) → x < 256 → getD counts x 0 ≡ getD before x 0 + occurrences x whole
-  unfolding occurrences
-  ended e x b = omega (arith, ap (λ feeds. occurrences x feeds) e, s .rest x b)
-
-  pub at-end : j ≡ 0 → (x : ℕ) → x < 256 → getD counts x 0 ≡ getD before x 0 + occurrences x whole
-  at-end e = ended (ap (λ k. along following left k) e ∙ along-end following left)
-
-  pub at-cut : left ≡ 0 → (x : ℕ) → x < 256 → getD counts x 0 ≡ getD before x 0 + occurrences x whole
-  at-cut e = ended (ap (λ l. along following l j) e ∙ along-cut following j)
+-- Counted from nothing, a feed has the count 1 where it comes up once.
+pub once :
+    {feeds counts : List ℕ} →
+    Counted (replicate 256 0) feeds counts → (x : ℕ) → x < 256 → eqb (getD counts x 0) 1 ≡ eqb (occurrences x feeds) 1
+once {feeds} {counts} s x b =
+    let counted = getD counts x 0 in
+    let times = occurrences x feeds in
+    one-when-cut counted times (omega (arith, s .each x b, getD-replicate {A = ℕ} 256 x 0 0 b)) (eqb times 1) refl

@@ -11,7 +11,6 @@ pub mod Sums
 pub mod Tested
 pub mod Along
 pub mod Sought
-pub mod Occurrences
 pub mod Counted
 -- The table.
 pub mod Filled

@@ -5,3 +5,4 @@ pub mod Tests
 pub mod Sums
 pub mod BookGrounds
 pub mod Table
+pub mod Private

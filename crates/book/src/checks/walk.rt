@@ -1,52 +1,62 @@
-// Ground 15: walking the members in order, every feed comes up once.
+// Ground 15: walking the members in order, every feed comes up once. How often each does is kept in
+// one array, a byte for a feed: 0 is never, 1 is once, and from 2 on it does not matter how often.
 use super::super::counts::feed_count;
 use super::super::counts::member_count;
 use super::super::fields::first_feed;
 use super::super::fields::next_of;
 ghost use mathlib.Core.Path.{_≡_};
-ghost use Prim.Native.Nat.{ℕ, _+_, _<_, _^_};
-ghost use lib.ListN.{getD};
+ghost use Prim.Native.Nat.{_+_, min};
+ghost use lib.ListN.{length};
 ghost use Rattle.book.specs.Fields.{members, feedCount, next, along};
-ghost use Rattle.book.specs.BookGrounds.{walk, occurrences, feedNotOnce};
+ghost use Rattle.book.specs.BookGrounds.{walk, feedNotOnce};
+ghost use Rattle.book.specs.Private.Counted.{Counted};
 
-// The counts with each feed of the chain from `first` on counted once more. A feed is a byte, so
-// every one has its place; a chain is cut where it must have repeated a feed.
-fn count_along(book: &[u8], first: u8, counts: [u16; 256]) -> [u16; 256]
-    requires { ⌜ ((x : ℕ) → x < 256 → getD counts x 0 + 2 ^ 8 < 2 ^ 16) ⌝ }
-    ensures { λ r. ⌜ (let bytes = now (book .entry) in
-        ((x : ℕ) → x < 256 → getD r x 0 ≡ getD counts x 0 + occurrences x (along (next bytes) (feedCount bytes + 1) first))) ⌝ }
+// A third time is no different from a second.
+fn one_more(times: u8) -> u8
+    ensures { λ r. ⌜ r ≡ min (times + 1) 2 ⌝ }
 {
-    let mut counts = counts;
+    if times == 0 {
+        return 1;
+    }
+    2
+}
+
+// Counts each feed of the chain from `first` on once more. A feed is a byte, so every one has its
+// place; a chain is cut where it must have repeated a feed.
+fn count_along(book: &[u8], first: u8, counts: &mut [u8])
+    requires { ⌜ length (now counts) ≡ 256 ⌝ }
+    ensures { λ _. ⌜ (let bytes = now (book .entry) in
+        Counted (now (counts .entry)) (along (next bytes) (feedCount bytes + 1) first) (now (counts .exit))) ⌝ }
+{
     let mut j = first as u16;
     let mut left = feed_count(book) + 1;
     while 0 < j && 0 < left {
-        counts[j as usize] += 1;
+        let at = j as usize;
+        let times = counts[at];
+        counts[at] = one_more(times);
         j = next_of(book, j) as u16;
         left -= 1;
     }
-    counts
 }
 
-// How often each feed comes up, walking the members in order.
-fn count_walk(book: &[u8]) -> [u16; 256]
-    ensures { λ r. ⌜ (let bytes = now (book .entry) in
-        ((x : ℕ) → x < 256 → getD r x 0 ≡ occurrences x (walk bytes (members bytes)))) ⌝ }
+// Counts each feed of every member once more, the members in order.
+fn count_walk(book: &[u8], counts: &mut [u8; 256])
+    ensures { λ _. ⌜ (let bytes = now (book .entry) in
+        Counted (now (counts .entry)) (walk bytes (members bytes)) (now (counts .exit))) ⌝ }
 {
     let count = member_count(book);
-    let mut counts = [0u16; 256];
     let mut i = 0;
     while i < count {
-        let more = count_along(book, first_feed(book, i), counts);
-        counts = more;
+        count_along(book, first_feed(book, i), counts);
         i += 1;
     }
-    counts
 }
 
 pub(crate) fn feed_not_once(book: &[u8]) -> bool
     ensures { λ r. ⌜ r ≡ feedNotOnce (now (book .entry)) ⌝ }
 {
-    let counts = count_walk(book);
+    let mut counts = [0u8; 256];
+    count_walk(book, &mut counts);
     let count = feed_count(book);
     let mut found = false;
     let mut j = 0;
