@@ -1,5 +1,5 @@
--- What passing the call's checks says, and is told by: the rate is within its limit, the book is accepted, and the lent list has a place for each member.
-use Prim.Native.Nat.{ℕ, _≤_}
+-- What passing the call's checks says, and is told by.
+use Prim.Native.Nat.{ℕ}
 use mathlib.Core.Bool.{cond}
 use mathlib.Core.Path.{_≡_, ap, sym, _∙_}
 use mathlib.Core.List.{List, [], _∷_, _++_}
@@ -8,16 +8,12 @@ use borrow.Author.Tests.{ltb-false, le-ltb}
 use Rattle.balance.specs.Rates.{maxRate}
 use Rattle.book.specs.Fields.{members}
 use Rattle.refusals.specs.Grounds.{ground, firstMet, orElse}
-use Rattle.book.specs.BookGrounds.{bookGrounds, Accepted}
+use Rattle.book.specs.BookGrounds.{bookGrounds}
 use Rattle.balance.specs.Factors.{factorGrounds}
+use Rattle.balance.specs.Private.Fillable.{CallPasses}
 use Rattle.refusals.specs.declared.Checked.the-variants.{Passed, Refused}
 use Rattle.refusals.specs.declared.Refusal.the-variants.{RateTooHigh, ListTooShort}
 use Rattle.refusals.proofs.FirstMet.{not-met, first-of-both, both-pass}
-
-pub record CallPasses (v : ℕ) (book : List ℕ) (room : ℕ) : Type 0 where
-  pub rate : v ≤ maxRate
-  pub accepted : Accepted book
-  pub enough : members book ≤ room
 
 pub call-passes : (v : ℕ) (book : List ℕ) (room : ℕ) → firstMet (factorGrounds v book room) ≡ Passed → CallPasses v book room
 call-passes v book room passed =

@@ -3,17 +3,25 @@
 use Prim.Native.Nat.{ℕ, zero, suc, _+_, _-_, _*_, _/_, _≤_, _<_}
 use mathlib.Core.Path.{_≡_, refl, sym, _∙_}
 use mathlib.Core.List.{List, _++_}
+use native.Mathlib.Nat.{lt-of-le-of-lt}
 use native.Mathlib.Omega.{arith}
+use lib.Dec.{lit<}
 use lib.ListN.{length, getD, set, drop, length-set, List·getD-append}
 use lib.Seq.{set-set, drop-set-lt}
-use Rattle.balance.specs.Chain.{Feed, Chain}
+use Rattle.book.specs.Limits.{wholeShare}
+use Rattle.book.specs.Fields.{members, scaleOf, halfLife}
+use Rattle.book.specs.BookGrounds.{Accepted}
+use Rattle.balance.specs.Rates.{ratesAt}
+use Rattle.balance.specs.Chain.{Feed, Chain, chainOf}
 use Rattle.balance.specs.Private.Sound.{FromBelow, Sound}
+use Rattle.balance.specs.Private.Fillable.{Fed}
 use Rattle.book.specs.Table.{upTo, filled}
 use Rattle.balance.specs.Balance.{G, K, removal, inflow, reported, reportedFactor}
 use Rattle.book.proofs.Filled.{Filled, filled-none, filled-more}
 use Rattle.balance.proofs.Inflow.{inflow-of-list, inflow-same}
 use Rattle.balance.proofs.Reported.{reported-length, reported-next}
 use Rattle.balance.proofs.SoundFactors.{inflow-at-most-G}
+use Rattle.balance.proofs.AcceptedSound.{accepted-sound}
 
 -- The inflow reads no factor past the members that the feeds come from.
 inflow-front : (k : ℕ) (factors rest : List ℕ) (feeds : List Feed) → FromBelow k feeds → length factors ≡ k →
@@ -81,3 +89,23 @@ module _ (scale : ℕ) (chain : Chain) (rate : ℕ → ℕ) where
   filled-reported (suc n) out some =
       let e : suc n - 1 ≡ n = omega arith in
       rw (e, reported-up-to n, drop-set-lt (suc n) out 0 G some)
+
+-- In an accepted book, each place filled so far lets the next member's inflow be summed in a word.
+pub fed : {book list now : List ℕ} (v i : ℕ) → Accepted book → 1 ≤ i → i < members book →
+    Filled (reportedFactor (scaleOf book) (chainOf book) (ratesAt book v)) list (members book) i now → Fed book i now
+fed {book} v i accepted later l h =
+    record {
+      accepted = accepted;
+      member = l;
+      enough = omega (arith, h .room, h .size);
+      fits =
+          lt-of-le-of-lt
+          (inflow-bound (scaleOf book) (chainOf book) (ratesAt book v) (lit< tt) (accepted-sound book accepted) i later l h)
+          (lit< tt);
+    }
+
+-- The next factor, worked out from the inflow and the half-life that the code has, in the definition's terms.
+pub factor-made : (book now : List ℕ) (i v : ℕ) {F t factor : ℕ} → F ≡ inflow now (chainOf book .feeds i) → t ≡ halfLife book i →
+    factor ≡ F / wholeShare * K / (K + v * t) →
+    factor ≡ inflow now (chainOf book .feeds i) / scaleOf book * K / removal (chainOf book) (ratesAt book v) i
+factor-made book now i v sums lives made = rw (sums, lives) at made

@@ -13,15 +13,12 @@ pub mod Order
 pub mod Bounds
 pub mod Monotone
 pub mod SoundFactors
-pub mod Agrees
-pub mod SoundAgrees
 -- From an accepted book to a sound chain.
 pub mod Walk
 pub mod OnceEach
 pub mod BookFeeds
 pub mod AcceptedSound
--- The table and the fill.
-pub mod TableMeans
+-- The fill.
 pub mod Quotients
 pub mod AlongFeeds
 pub mod FilledFactors

@@ -19,7 +19,8 @@ use Rattle.balance.specs.declared.FactorAnswer.{FactorAnswer}
 use Rattle.balance.proofs.AcceptedSound.{accepted-sound}
 use Rattle.balance.proofs.Reported.{reported-factor}
 use Rattle.balance.proofs.SoundFactors.{factor-promise, fall-promise, reported-at-most-G}
-use Rattle.balance.proofs.CallPasses.{CallPasses, call-passes, passing-call}
+use Rattle.balance.specs.Private.Fillable.{CallPasses}
+use Rattle.balance.proofs.CallPasses.{call-passes, passing-call}
 use Rattle.balance.proofs.CallAnswers.{factors-length}
 
 filled-passed : (found : Checked) (count n : ℕ) → filledIf found count ≡ FactorAnswer.Filled n → (found ≡ Checked.Passed) × (count ≡ n)

@@ -1,10 +1,9 @@
 -- The lists of feeds that a walk along next gives: where no first or next exceeds m, each listed feed is 1 to m, and a list that stops short of its bound is whole.
--- Such a list reads its functions at 1 to m alone.
 use Prim.Native.Nat.{ℕ, zero, suc, _≤_, _<_}
 use native.Mathlib.Nat.{le-of-suc-le-suc}
 use native.Mathlib.Omega.{arith}
 use mathlib.Core.Path.{_≡_, refl, ap}
-use mathlib.Core.List.{List, [], _∷_, _++_, map}
+use mathlib.Core.List.{List, [], _∷_, _++_}
 use lib.ListN.{length}
 use Rattle.book.specs.Fields.{along}
 
@@ -32,26 +31,3 @@ module _ (following : ℕ → ℕ) where
   along-whole (suc bound) (suc larger) zero le short = refl
   along-whole (suc bound) (suc larger) (suc j) le short =
       ap (λ js. suc j ∷ js) (along-whole bound larger (following (suc j)) (le-of-suc-le-suc le) (le-of-suc-le-suc short))
-
-  pub along-same :
-      (m : ℕ) (other : ℕ → ℕ)
-      → ((j : ℕ) → j < m → following (suc j) ≤ m)
-      → ((j : ℕ) → j < m → other (suc j) ≡ following (suc j))
-      → (bound j : ℕ)
-      → j ≤ m
-      → along other bound j ≡ along following bound j
-  unfolding along
-  along-same m other each same zero j le = refl
-  along-same m other each same (suc bound) zero le = refl
-  along-same m other each same (suc bound) (suc j) le =
-      rw (same j le) (ap (λ js. suc j ∷ js) (along-same m other each same bound (following (suc j)) (each j le)))
-
-pub map-same :
-    {A : Type 0} (m : ℕ) (f g : ℕ → A)
-    → ((j : ℕ) → j < m → f (suc j) ≡ g (suc j))
-    → (js : List ℕ)
-    → Listed m js
-    → map f js ≡ map g js
-map-same m f g same [] listed = refl
-map-same m f g same (zero ∷ js) listed = absurd (omega (arith, listed .0))
-map-same m f g same (suc j ∷ js) listed = rw (same j (listed .1), map-same m f g same js (listed .2))

@@ -1,19 +1,24 @@
-// The balance of a chain's table, written into a lent list.
+// The balance of an accepted chain, written into a lent list. The chain's arrays are lent: none is copied, and none is of factors.
 use super::limits::DECAY;
 use super::limits::GRAINS;
-use book::ChainTable;
 use book::MAX_FEEDS;
+use book::MAX_MEMBERS;
 use book::WHOLE_SHARE;
+use book::feed_count;
+use book::member_count;
 use wide::product_quotient;
 ghost use mathlib.Core.Path.{_≡_};
 ghost use mathlib.Core.List.{_++_};
-ghost use Prim.Native.Nat.{_+_, _-_, _*_, _/_, _^_, _≤_, _<_};
+ghost use Prim.Native.Nat.{_+_, _*_, _/_, _^_, _≤_, _<_};
 ghost use lib.ListN.{length, drop, set};
+ghost use Rattle.book.specs.Limits.{maxHalfLife, wholeShare};
+ghost use Rattle.book.specs.Fields.{members};
+ghost use Rattle.book.specs.Table.{FeedsHeld, ChainHeld};
 ghost use Rattle.balance.specs.Rates.{maxRate};
-ghost use Rattle.book.specs.Limits.{maxHalfLife};
-ghost use Rattle.balance.specs.Private.Tabled.{scaleIn, ratesIn, chainIn};
-ghost use Rattle.balance.specs.Balance.{K, inflow, reported};
-ghost use Rattle.balance.specs.Private.Fillable.{Linked, feedsFrom, Fillable};
+ghost use Rattle.balance.specs.Chain.{chainOf};
+ghost use Rattle.balance.specs.Balance.{K, inflow};
+ghost use Rattle.balance.specs.Factors.{factorsAt};
+ghost use Rattle.balance.specs.Private.Fillable.{CallPasses, Fed};
 
 // Elements of a lent array in the types that the sum needs; their range comes with the cast.
 fn index(x: u8) -> usize
@@ -29,29 +34,30 @@ fn widened(x: u32) -> u64
 }
 
 // The sum over a member's feeds, from its first on, of share times the factor of from.
-fn inflow_of(
-    first: u8,
-    feeds: usize,
-    shares: &[u32; MAX_FEEDS],
-    froms: &[u8; MAX_FEEDS],
-    nexts: &[u8; MAX_FEEDS],
+fn inflow_of<'a>(
+    book: &[u8],
+    i: usize,
+    firsts: &'a [u8; MAX_MEMBERS],
+    shares: &'a [u32; MAX_FEEDS],
+    froms: &'a [u8; MAX_FEEDS],
+    nexts: &'a [u8; MAX_FEEDS],
     factors: &[u64],
 ) -> u64
-    requires { ⌜ Linked first feeds (length (now factors)) (now froms) (now nexts) ⌝ }
-    requires { ⌜ inflow (now factors) (feedsFrom (now shares) (now froms) (now nexts) (feeds + 1) first) < 2 ^ 64 ⌝ }
-    ensures { λ r. ⌜ r ≡ inflow (now (factors .entry)) (feedsFrom (now (shares .entry)) (now (froms .entry)) (now (nexts .entry)) (feeds + 1) first) ⌝ }
+    requires { ⌜ Fed (now book) i (now factors) ⌝ }
+    requires { ⌜ FeedsHeld (now book) (now firsts) (now shares) (now froms) (now nexts) ⌝ }
+    ensures { λ r. ⌜ r ≡ inflow (now (factors .entry)) (chainOf (now (book .entry)) .feeds i) ⌝ }
 {
     let mut sum: u64 = 0;
-    let mut feed = first as usize;
-    let mut left = feeds + 1;
+    let mut j = index(firsts[i]);
+    let mut left = feed_count(book) + 1;
     while left > 0 {
-        if feed == 0 {
+        if j == 0 {
             return sum;
         }
-        let place = feed - 1;
+        let place = j - 1;
         let from = index(froms[place]);
         sum += widened(shares[place]) * factors[from];
-        feed = index(nexts[place]);
+        j = index(nexts[place]);
         left -= 1;
     }
     sum
@@ -66,28 +72,12 @@ fn whole_grains(inflow: u64, scale: u64) -> u64
 }
 
 // A later member's factor: the part of its inflow that decays in the room before it is blown out.
-fn member_factor(
-    scale: u64,
-    first: u8,
-    half_life: u64,
-    v: u32,
-    feeds: usize,
-    shares: &[u32; MAX_FEEDS],
-    froms: &[u8; MAX_FEEDS],
-    nexts: &[u8; MAX_FEEDS],
-    factors: &[u64],
-) -> u64
-    requires { ⌜ Linked first feeds (length (now factors)) (now froms) (now nexts) ⌝ }
-    requires { ⌜ inflow (now factors) (feedsFrom (now shares) (now froms) (now nexts) (feeds + 1) first) < 2 ^ 64 ⌝ }
-    requires { ⌜ 0 < scale ⌝ }
+fn member_factor(inflow: u64, half_life: u64, v: u32) -> u64
     requires { ⌜ v ≤ maxRate ⌝ }
     requires { ⌜ «half_life» ≤ maxHalfLife ⌝ }
-    ensures { λ r. ⌜ r ≡ inflow (now (factors .entry)) (feedsFrom (now (shares .entry)) (now (froms .entry)) (now (nexts .entry)) (feeds + 1) first) / scale * K / (K + v * «half_life») ⌝ }
+    ensures { λ r. ⌜ r ≡ inflow / wholeShare * K / (K + v * «half_life») ⌝ }
 {
-    let whole = whole_grains(
-        inflow_of(first, feeds, shares, froms, nexts, factors),
-        scale,
-    );
+    let whole = whole_grains(inflow, WHOLE_SHARE);
     let removal = DECAY + v as u64 * half_life;
     product_quotient(whole, DECAY, removal)
 }
@@ -101,32 +91,27 @@ fn write_factor(out: &mut [u64], i: usize, factor: u64)
 }
 
 // The factors of all members, in order: each is read back from the list by the members that it feeds.
-pub(crate) fn fill(table: ChainTable, v: u32, out: &mut [u64])
-    requires { ⌜ Fillable table v (length (now out)) ⌝ }
-    ensures { λ _. ⌜ now (out .exit) ≡ reported (scaleIn table) (chainIn table) (ratesIn table v) (table .members - 1) ++ drop (table .members) (now (out .entry)) ⌝ }
+pub(crate) fn fill<'a>(
+    book: &[u8],
+    v: u32,
+    half_lives: &'a [u64; MAX_MEMBERS],
+    firsts: &'a [u8; MAX_MEMBERS],
+    shares: &'a [u32; MAX_FEEDS],
+    froms: &'a [u8; MAX_FEEDS],
+    nexts: &'a [u8; MAX_FEEDS],
+    out: &mut [u64],
+)
+    requires { ⌜ CallPasses v (now book) (length (now out)) ⌝ }
+    requires { ⌜ ChainHeld (now book) (now «half_lives») (now firsts) (now shares) (now froms) (now nexts) ⌝ }
+    ensures { λ _. ⌜ (let bytes = now (book .entry) in
+        now (out .exit) ≡ factorsAt bytes v ++ drop (members bytes) (now (out .entry))) ⌝ }
 {
-    let scale = WHOLE_SHARE;
-    let members = table.members;
-    let feeds = table.feeds;
-    let half_lives = table.half_lives;
-    let firsts = table.firsts;
-    let shares = table.shares;
-    let froms = table.froms;
-    let nexts = table.nexts;
+    let members = member_count(book) as usize;
     write_factor(out, 0, GRAINS);
     let mut i = 1;
     while i < members {
-        let factor = member_factor(
-            scale,
-            firsts[i],
-            half_lives[i],
-            v,
-            feeds,
-            &shares,
-            &froms,
-            &nexts,
-            out,
-        );
+        let inflow = inflow_of(book, i, firsts, shares, froms, nexts, out);
+        let factor = member_factor(inflow, half_lives[i], v);
         write_factor(out, i, factor);
         i += 1;
     }

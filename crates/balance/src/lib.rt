@@ -2,7 +2,8 @@
 mod fill;
 mod limits;
 
-use book::ChainTable;
+use book::MAX_FEEDS;
+use book::MAX_MEMBERS;
 use book::check_book;
 use book::member_count;
 use book::read_table;
@@ -17,7 +18,7 @@ ghost use mathlib.Core.Path.{_≡_};
 ghost use lib.ListN.{length};
 ghost use Rattle.refusals.specs.Grounds.{firstMet};
 ghost use Rattle.book.specs.BookGrounds.{bookGrounds};
-ghost use Rattle.book.specs.Table.{tableOf};
+ghost use Rattle.book.specs.Table.{ChainHeld};
 ghost use Rattle.balance.specs.Factors.{factorGrounds, factorAnswer, factorList};
 ghost use Rattle.balance.specs.Promises.{ListPromise};
 
@@ -33,19 +34,35 @@ pub fn factors(v: u32, book: &[u8], out: &mut [u64]) -> FactorAnswer
     ensures written { λ _. ⌜ now (out .exit) ≡ factorList v (now (book .entry)) (now (out .entry)) ⌝ }
     ensures sound { λ r. ⌜ ListPromise v (now (book .entry)) r (now (out .exit)) ⌝ }
 {
-    factors_read(check_book(book), read_table(book), v, book, out)
+    let found = check_book(book);
+    let table = read_table(book);
+    factors_read(
+        found,
+        v,
+        book,
+        &table.half_lives,
+        &table.firsts,
+        &table.shares,
+        &table.froms,
+        &table.nexts,
+        out,
+    )
 }
 
-// The same for a book that is checked and read already, with what its checks found and its table.
-pub fn factors_read(
+// The same for a book that is checked and read already, with what its checks found and the arrays of its table.
+pub fn factors_read<'a>(
     found: Checked,
-    table: ChainTable,
     v: u32,
     book: &[u8],
+    half_lives: &'a [u64; MAX_MEMBERS],
+    firsts: &'a [u8; MAX_MEMBERS],
+    shares: &'a [u32; MAX_FEEDS],
+    froms: &'a [u8; MAX_FEEDS],
+    nexts: &'a [u8; MAX_FEEDS],
     out: &mut [u64],
 ) -> FactorAnswer
     requires { ⌜ found ≡ firstMet (bookGrounds (now book)) ⌝ }
-    requires { ⌜ table ≡ tableOf (now book) ⌝ }
+    requires { ⌜ ChainHeld (now book) (now «half_lives») (now firsts) (now shares) (now froms) (now nexts) ⌝ }
     ensures answered { λ r. ⌜ r ≡ factorAnswer v (now (book .entry)) (length (now (out .entry))) ⌝ }
     ensures written { λ _. ⌜ now (out .exit) ≡ factorList v (now (book .entry)) (now (out .entry)) ⌝ }
     ensures sound { λ r. ⌜ ListPromise v (now (book .entry)) r (now (out .exit)) ⌝ }
@@ -54,9 +71,8 @@ pub fn factors_read(
     match checked {
         Checked::Refused(refusal) => FactorAnswer::Refused(refusal),
         Checked::Passed => {
-            let members = table.members;
-            fill(table, v, out);
-            FactorAnswer::Filled(members)
+            fill(book, v, half_lives, firsts, shares, froms, nexts, out);
+            FactorAnswer::Filled(member_count(book) as usize)
         }
     }
 }

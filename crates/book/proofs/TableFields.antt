@@ -1,14 +1,16 @@
 -- The fields of an accepted book's table are the book's: its counts are within the limits, so that none is cut,
 -- and each array is filled with the book's numbers up to the count.
-use Prim.Native.Nat.{ℕ, suc, _+_, _*_, _/_, _%_, _<_}
+use Prim.Native.Nat.{ℕ, zero, suc, _+_, _-_, _*_, _/_, _%_, _≤_, _<_}
+use native.Mathlib.Numerals.{sub-one}
 use native.Mathlib.Omega.{arith}
 use native.Mathlib.Nat.{min-eq-left}
-use mathlib.Core.Path.{_≡_, refl, ap₂, _∙_}
+use mathlib.Core.Path.{_≡_, refl, ap, ap₂, _∙_}
 use mathlib.Core.List.{List}
 use lib.ListN.{getD, replicate}
 use Rattle.book.specs.Limits.{maxMembers, maxFeeds}
 use Rattle.book.specs.Fields.{members, feedCount, workingLevelDivisor, halfLife, coefficientCount, coefficient, firstFeed, share, from, next}
-use Rattle.book.specs.Table.{memberPlaces, feedPlaces, tableOf}
+use Rattle.book.specs.Table.{memberPlaces, feedPlaces, tableOf, FeedsHeld, ChainHeld}
+use Rattle.book.specs.declared.table.ChainTable.{ChainTable}
 use Rattle.book.proofs.Ranges.{Ranges}
 use Rattle.book.proofs.Filled.{filled-at}
 
@@ -27,23 +29,21 @@ module _ (book : List ℕ) (ranges : Ranges book) where
   unfolding tableOf
   table-divisor = refl
 
-  pub table-feeds : tableOf book .feeds ≡ feedCount book
-  unfolding tableOf
-  table-feeds = all-feeds
-
   module _ (i : ℕ) (l : i < members book) where
     member-place : i < memberPlaces book
     member-place = rw all-members l
 
-    pub table-half-life : getD (tableOf book .«half_lives») i 0 ≡ halfLife book i
+    table-half-life : getD (tableOf book .«half_lives») i 0 ≡ halfLife book i
     unfolding tableOf
     table-half-life = filled-at (memberPlaces book) (halfLife book) (replicate maxMembers 0) i member-place
 
-    pub table-first : getD (tableOf book .firsts) i 0 ≡ firstFeed book i
+    table-first : getD (tableOf book .firsts) i 0 ≡ firstFeed book i
     unfolding tableOf
     table-first = filled-at (memberPlaces book) (firstFeed book) (replicate maxMembers 0) i member-place
 
-    pub table-coefficient : (which : ℕ) → which < coefficientCount → getD (tableOf book .coefficients) (coefficientCount * i + which) 0 ≡ coefficient book i which
+    pub table-coefficient :
+        (which : ℕ) → which < coefficientCount →
+        getD (tableOf book .coefficients) (coefficientCount * i + which) 0 ≡ coefficient book i which
     unfolding tableOf
     table-coefficient which w =
         let member : (coefficientCount * i + which) / coefficientCount ≡ i = omega arith in
@@ -61,14 +61,53 @@ module _ (book : List ℕ) (ranges : Ranges book) where
     feed-place : j < feedPlaces book
     feed-place = rw all-feeds l
 
-    pub table-share : getD (tableOf book .shares) j 0 ≡ share book (suc j)
+    table-share : getD (tableOf book .shares) j 0 ≡ share book (suc j)
     unfolding tableOf
     table-share = filled-at (feedPlaces book) (λ k. share book (suc k)) (replicate maxFeeds 0) j feed-place
 
-    pub table-from : getD (tableOf book .froms) j 0 ≡ from book (suc j)
+    table-from : getD (tableOf book .froms) j 0 ≡ from book (suc j)
     unfolding tableOf
     table-from = filled-at (feedPlaces book) (λ k. from book (suc k)) (replicate maxFeeds 0) j feed-place
 
-    pub table-next : getD (tableOf book .nexts) j 0 ≡ next book (suc j)
+    table-next : getD (tableOf book .nexts) j 0 ≡ next book (suc j)
     unfolding tableOf
     table-next = filled-at (feedPlaces book) (λ k. next book (suc k)) (replicate maxFeeds 0) j feed-place
+
+  -- The same of arrays that are lent, at the places where the code looks for member i and for feed j.
+  pub half-life-held : {half-lives firsts shares froms nexts : List ℕ} → ChainHeld book half-lives firsts shares froms nexts →
+      (i : ℕ) → i < members book → getD half-lives i 0 ≡ halfLife book i
+  half-life-held held i l = rw (held .half-life-array) (table-half-life i l)
+
+  module _ {firsts shares froms nexts : List ℕ} where
+    module _ (held : FeedsHeld book firsts shares froms nexts) where
+      pub first-held : (i : ℕ) → i < members book → getD firsts i 0 ≡ firstFeed book i
+      first-held i l = rw (held .first-array) (table-first i l)
+
+      pub share-held : (j : ℕ) → (j ≡ 0 → ⊥) → j ≤ feedCount book → getD shares (j - 1) 0 ≡ share book j
+      share-held zero some le = absurd (some refl)
+      share-held (suc j) some le = rw (sub-one, held .share-array) (table-share j le)
+
+      pub from-held : (j : ℕ) → (j ≡ 0 → ⊥) → j ≤ feedCount book → getD froms (j - 1) 0 ≡ from book j
+      from-held zero some le = absurd (some refl)
+      from-held (suc j) some le = rw (sub-one, held .from-array) (table-from j le)
+
+      pub next-held : (j : ℕ) → (j ≡ 0 → ⊥) → j ≤ feedCount book → getD nexts (j - 1) 0 ≡ next book j
+      next-held zero some le = absurd (some refl)
+      next-held (suc j) some le = rw (sub-one, held .next-array) (table-next j le)
+
+-- The arrays of a table that was read of a book are the book's.
+pub table-held :
+    {book : List ℕ} {table : ChainTable}
+    → table ≡ tableOf book
+    → ChainHeld book (table .«half_lives») (table .firsts) (table .shares) (table .froms) (table .nexts)
+table-held read =
+    record {
+      half-life-array = ap (λ t. t .«half_lives») read;
+      feeds-held =
+          record {
+            first-array = ap (λ t. t .firsts) read;
+            share-array = ap (λ t. t .shares) read;
+            from-array = ap (λ t. t .froms) read;
+            next-array = ap (λ t. t .nexts) read;
+          };
+    }

@@ -1,6 +1,7 @@
 -- What the code holds of a book, field by field.
 use Prim.Native.Nat.{ℕ, zero, suc, _*_, _/_, _%_, min}
 use mathlib.Core.List.{List, [], _∷_, _++_}
+use mathlib.Core.Path.{_≡_}
 use lib.ListN.{drop, replicate}
 use Rattle.book.specs.Limits.{maxMembers, maxFeeds}
 use Rattle.book.specs.Fields.{members, feedCount, workingLevelDivisor, halfLife, coefficient, firstFeed, share, from, next, coefficientCount}
@@ -36,3 +37,14 @@ tableOf book =
       froms = filled (feedPlaces book) (λ k. from book (suc k)) (replicate maxFeeds 0);
       nexts = filled (feedPlaces book) (λ k. next book (suc k)) (replicate maxFeeds 0);
     }
+
+-- The arrays of a book's table that its balance is worked out from, lent one by one.
+pub record FeedsHeld (book firsts shares froms nexts : List ℕ) : Type 0 where
+  pub first-array : firsts ≡ tableOf book .firsts
+  pub share-array : shares ≡ tableOf book .shares
+  pub from-array : froms ≡ tableOf book .froms
+  pub next-array : nexts ≡ tableOf book .nexts
+
+pub record ChainHeld (book half-lives firsts shares froms nexts : List ℕ) : Type 0 where
+  pub half-life-array : half-lives ≡ tableOf book .«half_lives»
+  pub feeds-held : FeedsHeld book firsts shares froms nexts

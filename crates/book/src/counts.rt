@@ -13,7 +13,7 @@ pub fn member_count(book: &[u8]) -> u16
     u8_at(book, MEMBER_COUNT) as u16
 }
 
-pub(crate) fn feed_count(book: &[u8]) -> u16
+pub fn feed_count(book: &[u8]) -> u16
     ensures value { λ r. ⌜ r ≡ feedCount (now (book .entry)) ⌝ }
     ensures range { λ r. ⌜ r < 2 ^ 8 ⌝ }
 {

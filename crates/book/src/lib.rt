@@ -12,6 +12,7 @@ pub use bytes::u16_at;
 pub use bytes::u32_at;
 pub use bytes::u64_at;
 pub use checks::check_book;
+pub use counts::feed_count;
 pub use counts::member_count;
 pub use layout::COEFFICIENTS;
 pub use layout::FEED_LENGTH;

@@ -9,8 +9,6 @@ use Rattle.refusals.specs.Grounds.{firstMet}
 use Rattle.refusals.specs.declared.Checked.{Checked}
 use Rattle.refusals.specs.declared.Refusal.{Refusal}
 use Rattle.book.specs.Fields.{coefficient}
-use Rattle.book.specs.Table.{tableOf}
-use Rattle.book.specs.declared.table.ChainTable.{ChainTable}
 use Rattle.reading.specs.declared.amounts.Intake.{Intake}
 use Rattle.screening.specs.Job.{rate, concentrationOf, intakeOf, jobLength, bookOf}
 use Rattle.screening.specs.JobGrounds.{checkedJob}
@@ -37,14 +35,13 @@ module _ (job book : List ℕ) {found : Checked} (told : found ≡ checkedJob jo
     concentration-is : C ≡ concentrationOf job
     concentration-is = measured ∙ ap concentrationIn taken ∙ passes .reading .is
 
-    pub screenable : {table : ChainTable} → table ≡ tableOf book → Screenable by v C book table
-    screenable read =
+    pub screenable : Screenable by v C book
+    screenable =
         record {
           target = rw judged-by (passes .fields .target);
           rate = rw at (passes .fields .rate);
           concentration = rw concentration-is (passes .reading .within);
           accepted = passes .accepted;
-          read = read;
         }
 
     pub passed-is : {answer : Answer} → answer ≡ screenedAt by book (coefficient book) v C → answer ≡ answerWith job book

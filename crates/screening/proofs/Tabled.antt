@@ -7,6 +7,7 @@ use mathlib.Core.List.{List}
 use lib.ListN.{getD, replicate}
 use Rattle.book.specs.Limits.{maxMembers}
 use Rattle.book.specs.Fields.{members, coefficientCount, coefficient}
+use Rattle.book.specs.Table.{tableOf}
 use Rattle.book.specs.declared.table.ChainTable.{ChainTable}
 use Rattle.book.proofs.Ranges.{Ranges, accepted-ranges}
 use Rattle.book.proofs.TableFields.{table-members, table-divisor, table-coefficient}
@@ -35,7 +36,7 @@ submersion-listed : (kind : Kind) → submersion kind < coefficientCount
 submersion-listed Kind.Risk = omega arith
 submersion-listed Kind.Dose = omega arith
 
-module _ {by : Criterion} {v C : ℕ} {book : List ℕ} {table : ChainTable} (asked : Screenable by v C book table) where
+module _ {by : Criterion} {v C : ℕ} {book : List ℕ} {table : ChainTable} (asked : Screenable by v C book) (read : table ≡ tableOf book) where
   ranges : Ranges book
   ranges = accepted-ranges book (asked .accepted)
 
@@ -44,10 +45,10 @@ module _ {by : Criterion} {v C : ℕ} {book : List ℕ} {table : ChainTable} (as
   list u = factorList u book (replicate maxMembers 0)
 
   count-is : table .members ≡ members book
-  count-is = ap (λ t. t .members) (asked .read) ∙ table-members book ranges
+  count-is = ap (λ t. t .members) read ∙ table-members book ranges
 
   number-is : (i which : ℕ) → i < members book → which < coefficientCount → numberIn (table .coefficients) i which ≡ coefficient book i which
-  number-is i which l w = ap (λ t. numberIn (t .coefficients) i which) (asked .read) ∙ table-coefficient book ranges i l which w
+  number-is i which l w = ap (λ t. numberIn (t .coefficients) i which) read ∙ table-coefficient book ranges i l which w
 
   factor-is : (u : ℕ) → u ≤ maxRate → (i : ℕ) → i < members book → getD (list u) i 0 ≡ factorAt book u i
   factor-is u within =
@@ -112,7 +113,7 @@ module _ {by : Criterion} {v C : ℕ} {book : List ℕ} {table : ChainTable} (as
             falls = rw (rate-is, zero-is) (alpha-falls book (coefficient book) 0 v (asked .accepted) (omega arith) (asked .rate));
             sums = small;
             concentration = asked .concentration;
-            some-divisor = rw (asked .read, table-divisor book ranges) (ranges .divisor);
+            some-divisor = rw (read, table-divisor book ranges) (ranges .divisor);
           }
 
       pub screened-is :
@@ -129,5 +130,5 @@ module _ {by : Criterion} {v C : ℕ} {book : List ℕ} {table : ChainTable} (as
       unfolding figuresAt
       screened-is found working =
           let judged-is = (rw at-rate at found) ∙ judged-of-book in
-          let divisor-is = ap (λ t. t .divisor) (asked .read) ∙ table-divisor book ranges in
+          let divisor-is = ap (λ t. t .divisor) read ∙ table-divisor book ranges in
           rw (judged-is, working, rate-is, zero-is, count-is, divisor-is, at-rate)

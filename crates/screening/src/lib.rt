@@ -9,7 +9,6 @@ mod working;
 
 use book::MAX_MEMBERS;
 use book::check_book;
-use book::read_table;
 use check::check_fields;
 use check::concentration_in;
 use check::intake_checked;
@@ -59,7 +58,6 @@ fn screen_with(job: &[u8], book: &[u8]) -> Answer
             rate_of(job),
             concentration_in(intake),
             book,
-            read_table(book),
         ),
     }
 }

@@ -7,54 +7,84 @@ use crate::verdict::judged;
 use crate::working::alpha_sum;
 use crate::working::working_levels;
 use balance::factors_read;
-use book::ChainTable;
+use book::MAX_FEEDS;
 use book::MAX_MEMBERS;
+use book::read_table;
 use refusals::Checked;
 ghost use mathlib.Core.Path.{_≡_};
 ghost use lib.ListN.{replicate};
 ghost use Rattle.book.specs.Limits.{maxMembers};
 ghost use Rattle.book.specs.Fields.{coefficient};
 ghost use Rattle.book.specs.BookGrounds.{Accepted};
-ghost use Rattle.book.specs.Table.{tableOf};
+ghost use Rattle.book.specs.Table.{ChainHeld};
 ghost use Rattle.balance.specs.Factors.{factorList};
 ghost use Rattle.screening.specs.Screening.{screenedAt};
 ghost use Rattle.screening.specs.Private.Checks.{Screenable};
 
-// The factors at a rate, in an array of zeros.
-fn factor_list(table: ChainTable, v: u32, book: &[u8]) -> [u64; MAX_MEMBERS]
+// The factors at a rate, in an array of zeros, of an accepted book whose arrays are lent.
+fn factor_list<'a>(
+    v: u32,
+    book: &[u8],
+    half_lives: &'a [u64; MAX_MEMBERS],
+    firsts: &'a [u8; MAX_MEMBERS],
+    shares: &'a [u32; MAX_FEEDS],
+    froms: &'a [u8; MAX_FEEDS],
+    nexts: &'a [u8; MAX_FEEDS],
+) -> [u64; MAX_MEMBERS]
     requires { ⌜ Accepted (now book) ⌝ }
-    requires { ⌜ table ≡ tableOf (now book) ⌝ }
+    requires { ⌜ ChainHeld (now book) (now «half_lives») (now firsts) (now shares) (now froms) (now nexts) ⌝ }
     ensures { λ r. ⌜ r ≡ factorList v (now (book .entry)) (replicate maxMembers 0) ⌝ }
 {
     let mut list = [0u64; MAX_MEMBERS];
-    factors_read(Checked::Passed, table, v, book, &mut list);
+    factors_read(
+        Checked::Passed,
+        v,
+        book,
+        half_lives,
+        firsts,
+        shares,
+        froms,
+        nexts,
+        &mut list,
+    );
     list
 }
 
-// The answer for a book that is checked and read, at a rate and a concentration.
-pub(crate) fn screened(
-    by: Criterion,
-    v: u32,
-    concentration: u64,
-    book: &[u8],
-    table: ChainTable,
-) -> Answer
-    requires { ⌜ Screenable by v concentration (now book) table ⌝ }
+// The answer for a book that is checked, at a rate and a concentration. The book is read once, and its arrays are lent.
+pub(crate) fn screened(by: Criterion, v: u32, concentration: u64, book: &[u8]) -> Answer
+    requires { ⌜ Screenable by v concentration (now book) ⌝ }
     ensures { λ r. ⌜ r ≡ screenedAt by (now (book .entry)) (coefficient (now (book .entry))) v concentration ⌝ }
 {
-    let list = factor_list(table, v, book);
-    let at_zero = factor_list(table, 0, book);
+    let table = read_table(book);
+    let list = factor_list(
+        v,
+        book,
+        &table.half_lives,
+        &table.firsts,
+        &table.shares,
+        &table.froms,
+        &table.nexts,
+    );
+    let at_zero = factor_list(
+        0,
+        book,
+        &table.half_lives,
+        &table.firsts,
+        &table.shares,
+        &table.froms,
+        &table.nexts,
+    );
     let count = table.members;
-    let coefficients = table.coefficients;
-    let found = judged(by, concentration, count, &coefficients, &list);
-    let alpha = alpha_sum(count, &coefficients, &list);
-    let alpha_at_zero = alpha_sum(count, &coefficients, &at_zero);
+    let found = judged(by, concentration, count, &table.coefficients, &list);
+    let alpha = alpha_sum(count, &table.coefficients, &list);
+    let alpha_at_zero = alpha_sum(count, &table.coefficients, &at_zero);
+    let divisor = table.divisor;
     let verdict = found.verdict;
     let figures = Figures {
         concentration,
         verdict,
         level: found.level,
-        working: working_levels(alpha, alpha_at_zero, concentration, table.divisor),
+        working: working_levels(alpha, alpha_at_zero, concentration, divisor),
     };
     Answer {
         outcome: Outcome::Screened(figures),

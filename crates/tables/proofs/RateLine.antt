@@ -8,21 +8,20 @@ use lib.Seq.{take-at}
 use Rattle.book.specs.Limits.{maxMembers}
 use Rattle.book.specs.Fields.{members, scaleOf}
 use Rattle.book.specs.BookGrounds.{Accepted}
-use Rattle.book.specs.declared.table.ChainTable.{ChainTable}
 use Rattle.book.proofs.Ranges.{accepted-ranges}
-use Rattle.book.proofs.TableFields.{table-members}
 use Rattle.balance.specs.Rates.{maxRate, ratesAt}
 use Rattle.balance.specs.Chain.{chainOf}
 use Rattle.balance.specs.Factors.{factorsAt, writtenIf, factorList}
 use Rattle.balance.proofs.Reported.{reported-factor}
-use Rattle.balance.proofs.CallPasses.{CallPasses, passing-call}
+use Rattle.balance.specs.Private.Fillable.{CallPasses}
+use Rattle.balance.proofs.CallPasses.{passing-call}
 use Rattle.balance.proofs.CallAnswers.{factors-length}
 use Rattle.balance.proofs.Promised.{factor-at-most-G}
 use Rattle.text.specs.Words.{decimal}
 use Rattle.text.proofs.Pieces.{each-as-long}
 use Rattle.entry.proofs.Promised.{entry-nine}
 use Rattle.tables.specs.Table.{spacedEntry, rateLine}
-use Rattle.tables.specs.Private.Tabulable.{Readable, NoneAboveParent}
+use Rattle.tables.specs.Private.Tabulable.{OneRate, NoneAboveParent}
 
 pub spaced-ten : (member factor : ℕ) → length (spacedEntry member factor) ≡ 10
 spaced-ten member factor = omega (arith, entry-nine factor)
@@ -49,13 +48,10 @@ module _ (book : List ℕ) (accepted : Accepted book) (v : ℕ) where
       ap (λ found. take (members book) (writtenIf found (factorsAt book v) (replicate maxMembers 0))) (passing-call v book maxMembers passes)
       ∙ take-at (factorsAt book v) _ (members book) (factors-length book v accepted)
 
--- Of one rate, with the book's table.
-module _ {v : ℕ} {table : ChainTable} {book : List ℕ} (given : Readable v table book) where
-  count-read : table .members ≡ members book
-  count-read = ap (λ t. t .members) (given .read) ∙ table-members book (accepted-ranges book (given .accepted))
+-- Of one rate, with the count of members that the code reads.
+module _ {v n : ℕ} {book : List ℕ} (given : OneRate v book) (counted : n ≡ members book) where
+  pub few-members : n ≤ maxMembers
+  few-members = rw counted (accepted-ranges book (given .accepted) .members-count .to)
 
-  pub few-read : table .members ≤ maxMembers
-  few-read = rw count-read (accepted-ranges book (given .accepted) .members-count .to)
-
-  pub factors-left : {list : List ℕ} → list ≡ factorList v book (replicate maxMembers 0) → take (table .members) list ≡ factorsAt book v
-  factors-left is = rw (is, count-read) (left-by-call book (given .accepted) v (given .low))
+  pub factors-left : {list : List ℕ} → list ≡ factorList v book (replicate maxMembers 0) → take n list ≡ factorsAt book v
+  factors-left is = rw (is, counted) (left-by-call book (given .accepted) v (given .low))

@@ -1,32 +1,22 @@
--- What the fill asks of a table, a rate and a lent list; the checks of a book and of the call ensure it.
-use Prim.Native.Nat.{ℕ, _-_, _≤_, _<_}
-use mathlib.Core.List.{List, map}
-use lib.ListN.{getD}
+-- What the fill asks of a book, a rate and a lent list; the checks of the call ensure it.
+use Prim.Native.Nat.{ℕ, _^_, _≤_, _<_}
+use mathlib.Core.List.{List}
+use lib.ListN.{length}
+use Rattle.book.specs.Fields.{members}
+use Rattle.book.specs.BookGrounds.{Accepted}
 use Rattle.balance.specs.Rates.{maxRate}
-use Rattle.book.specs.Limits.{maxMembers, maxFeeds, maxHalfLife}
-use Rattle.book.specs.Fields.{along}
-use Rattle.balance.specs.Chain.{Feed}
-use Rattle.balance.specs.Private.Tabled.{scaleIn, chainIn}
-use Rattle.balance.specs.Private.Sound.{Sound}
-use Rattle.book.specs.declared.table.ChainTable.{ChainTable}
+use Rattle.balance.specs.Chain.{chainOf}
+use Rattle.balance.specs.Balance.{inflow}
 
--- Every index met along the feeds from the first on is within the arrays, and within a list of so many factors.
-pub record Linked (first feeds count : ℕ) (froms nexts : List ℕ) : Type 0 where
-  pub few : feeds ≤ maxFeeds
-  pub start : first ≤ feeds
-  pub next : (k : ℕ) → k < feeds → getD nexts k 0 ≤ feeds
-  pub from : (k : ℕ) → k < feeds → getD froms k 0 < count
-
--- The feeds from j on, at most so many, out of arrays in which feed j stands at place j - 1.
-abbrev pub feedsFrom : List ℕ → List ℕ → List ℕ → ℕ → ℕ → List Feed
-feedsFrom shares froms nexts left j =
-    map (λ k. record { share = getD shares (k - 1) 0; from = getD froms (k - 1) 0 }) (along (λ k. getD nexts (k - 1) 0) left j)
-
-pub record Fillable (table : ChainTable) (v room : ℕ) : Type 0 where
-  pub parent : 1 ≤ table .members
-  pub members-fit : table .members ≤ maxMembers
-  pub room-for-all : table .members ≤ room
+-- The rate is within its limit, the book is accepted, and the list has a place for each member.
+pub record CallPasses (v : ℕ) (book : List ℕ) (room : ℕ) : Type 0 where
   pub rate : v ≤ maxRate
-  pub half-lives : (i : ℕ) → 1 ≤ i → i < table .members → getD (table .«half_lives») i 0 ≤ maxHalfLife
-  pub linked : (i : ℕ) → i < table .members → Linked (getD (table .firsts) i 0) (table .feeds) (table .members) (table .froms) (table .nexts)
-  pub sound : Sound (scaleIn table) (chainIn table)
+  pub accepted : Accepted book
+  pub enough : members book ≤ room
+
+-- And what one member's inflow asks of the factors so far: it fits a word.
+pub record Fed (book : List ℕ) (i : ℕ) (factors : List ℕ) : Type 0 where
+  pub accepted : Accepted book
+  pub member : i < members book
+  pub enough : members book ≤ length factors
+  pub fits : inflow factors (chainOf book .feeds i) < 2 ^ 64

@@ -33,8 +33,7 @@ returns c =
 
 screened-requires : tie.Need-screened-requires
 screened-requires c κs =
-    let measured = c .before in
-    let rate = measured .before in
+    let rate = c .before in
     let by = rate .before in
     let passed = by .before in
     let joined = passed .before .before in
@@ -45,13 +44,12 @@ screened-requires c κs =
     (passed .enum-told .given .1)
     (by .criterion-of .ensures)
     (rate .rate-of .ensures)
-    (measured .concentration-in .ensures)
+    (c .concentration-in .ensures)
     (taken joined .intake-of .ensures)
-    (c .read-table .ensures)
 
 returns-2 : tie.Need-returns-2
 returns-2 c =
-    let measured = c .before .before in
+    let measured = c .before in
     let rate = measured .before in
     let by = rate .before in
     let passed = by .before in
@@ -71,4 +69,4 @@ pub screen-with-spec : {M : Type 1} → statement M
 screen-with-spec =
     tie.close (tie.spec (search needs) (search needs) (search needs) (search needs) (search needs) (search needs) (search needs)
     (λ c κs. let begun = start (c .before .before) in fields-pass (begun .args .job .now) (begun .pre) .exposure) (search needs)
-    (search needs) (search needs) screened-requires returns returns-2)
+    (search needs) screened-requires returns returns-2)

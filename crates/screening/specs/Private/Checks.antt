@@ -1,14 +1,11 @@
 -- The grounds of a job in the parts that are checked one after the other, and what the code asks where they pass.
 use Prim.Native.Nat.{ℕ, _≤_}
-use mathlib.Core.Path.{_≡_}
 use mathlib.Core.List.{List, [], _∷_}
 use lib.ListN.{length}
 use lib.Dec.{ltb}
 use Rattle.refusals.specs.Grounds.{Ground, ground}
 use Rattle.refusals.specs.declared.Refusal.the-variants.{JobTooShort, CodeUnknown, RateTooHigh, TargetTooHigh, AttenuationOutOfRange, ExposureOutOfRange, ReadingUnusable, ConcentrationTooHigh}
 use Rattle.book.specs.BookGrounds.{Accepted}
-use Rattle.book.specs.Table.{tableOf}
-use Rattle.book.specs.declared.table.ChainTable.{ChainTable}
 use Rattle.balance.specs.Rates.{maxRate}
 use Rattle.reading.specs.Reading.{readingUnusable, concentrationTooHigh, maxConcentration}
 use Rattle.screening.specs.Job.{rate, target, readingOf, forReading, exposureOf, jobLength}
@@ -41,10 +38,9 @@ concentrationIn (Intake.Concentration c) = c
 concentrationIn Intake.TooHigh = 0
 concentrationIn Intake.Unusable = 0
 
--- What is screened: numbers within their limits, and an accepted book with its table.
-pub record Screenable (by : Criterion) (v C : ℕ) (book : List ℕ) (table : ChainTable) : Type 0 where
+-- What is screened: numbers within their limits, and an accepted book.
+pub record Screenable (by : Criterion) (v C : ℕ) (book : List ℕ) : Type 0 where
   pub target : by .target ≤ maxTarget
   pub rate : v ≤ maxRate
   pub concentration : C ≤ maxConcentration
   pub accepted : Accepted book
-  pub read : table ≡ tableOf book

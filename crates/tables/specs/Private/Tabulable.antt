@@ -8,8 +8,6 @@ use lib.ListN.{length, getD}
 use Rattle.refusals.specs.Grounds.{Ground, ground}
 use Rattle.refusals.specs.declared.Refusal.the-variants.{RateTooHigh, RateCountOutOfRange, BufferTooShort}
 use Rattle.book.specs.BookGrounds.{bookGrounds, Accepted}
-use Rattle.book.specs.Table.{tableOf}
-use Rattle.book.specs.declared.table.ChainTable.{ChainTable}
 use Rattle.balance.specs.Rates.{maxRate}
 use Rattle.balance.specs.Balance.{G}
 use Rattle.tables.specs.Answers.{maxRates, someRateTooHigh, rateCountOutOfRange}
@@ -28,11 +26,10 @@ pub record Tabulable (rates book : List ℕ) : Type 0 where
 abbrev pub fittingAnswer : List ℕ → ℕ → TableAnswer
 fittingAnswer text room = cond (ltb room (length text)) (TableAnswer.Refused BufferTooShort) (TableAnswer.Written (length text))
 
--- The same of one of the rates, with the book's table.
-pub record Readable (v : ℕ) (table : ChainTable) (book : List ℕ) : Type 0 where
+-- What they ensure of one of the rates.
+pub record OneRate (v : ℕ) (book : List ℕ) : Type 0 where
   pub low : v ≤ maxRate
   pub accepted : Accepted book
-  pub read : table ≡ tableOf book
 
 -- No factor of a list is above the parent's.
 pub record NoneAboveParent (factors : List ℕ) : Type 0 where

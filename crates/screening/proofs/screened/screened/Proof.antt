@@ -1,22 +1,55 @@
 -- `screening::screened::screened` meets its contract: what is worked out from the book's table and the factors' arrays is the book's own.
+use borrow.Author.Needs.{needs}
+use Rattle.book.proofs.TableFields.{table-held}
 use Rattle.screening.proofs.Tabled.{judgeable, some-members, workable, screened-is}
 use Rattle.screening.proofs.screened.screened.Statement.{statement}
 use Rattle.screening.proofs.screened.screened.Tie as tie
 
+-- The list at the rate comes before the one at rate 0, and the book is read before both; each call is lent five arrays.
+abbrev made : tie.After-factor-list2 → tie.After-factor-list
+made c = c .before .before .before .before .before .before .before
+
+abbrev read : tie.After-factor-list → tie.After-read-table
+read c = c .before .before .before .before .before .before .before
+
+abbrev start : tie.After-read-table → tie.Start
+start c = c .before .before
+
+factor-list-requires : tie.Need-factor-list-requires
+factor-list-requires c κs =
+    let table = c .before .before .before .before .before .before in
+    (start table .pre .accepted, table-held (table .read-table .ensures))
+
+factor-list-requires-2 : tie.Need-factor-list-requires-2
+factor-list-requires-2 c κs =
+    let table = read (c .before .before .before .before .before .before) in
+    (start table .pre .accepted, table-held (table .read-table .ensures))
+
 judged-requires : tie.Need-judged-requires
 judged-requires c κs =
     let zeroed = c .before .before .before in
-    let made = zeroed .before in
-    judgeable (made .before .before .pre) (made .factor-list .ensures) (zeroed .factor-list2 .ensures)
+    let table = read (made zeroed) in
+    judgeable (start table .pre) (table .read-table .ensures) (made zeroed .factor-list .ensures) (zeroed .factor-list2 .ensures)
+
+alpha-sum-requires : tie.Need-alpha-sum-requires
+alpha-sum-requires c κs =
+    let table = read (made (c .before .before .before .before .before .before .before)) in
+    some-members (start table .pre) (table .read-table .ensures)
+
+alpha-sum-requires-2 : tie.Need-alpha-sum-requires-2
+alpha-sum-requires-2 c κs =
+    let table = read (made (c .before .before .before .before .before .before .before .before .before .before .before)) in
+    some-members (start table .pre) (table .read-table .ensures)
 
 working-levels-requires : tie.Need-working-levels-requires
 working-levels-requires c κs =
-    let alpha = c .before .before .before in
-    let zeroed = alpha .before .before .before .before .before .before .before in
-    let made = zeroed .before in
+    let alpha = c .before .before .before .before in
+    let zeroed = alpha .before .before .before .before .before .before .before .before in
+    let table = read (made zeroed) in
     workable
-    (made .before .before .pre)
-    (made .factor-list .ensures)
+    (start table .pre)
+    (table .read-table .ensures)
+    (made zeroed .factor-list .ensures)
     (zeroed .factor-list2 .ensures)
     (alpha .alpha-sum .ensures .0)
     (c .alpha-sum2 .ensures .0)
@@ -24,13 +57,14 @@ working-levels-requires c κs =
 
 returns : tie.Need-returns
 returns c =
-    let alpha = c .before .before .before .before in
-    let judged = alpha .before .before .before in
+    let alpha = c .before .before .before .before .before in
+    let judged = alpha .before .before .before .before in
     let zeroed = judged .before .before .before .before in
-    let made = zeroed .before in
+    let table = read (made zeroed) in
     screened-is
-    (made .before .before .pre)
-    (made .factor-list .ensures)
+    (start table .pre)
+    (table .read-table .ensures)
+    (made zeroed .factor-list .ensures)
     (zeroed .factor-list2 .ensures)
     (alpha .alpha-sum .ensures .0)
     (c .before .alpha-sum2 .ensures .0)
@@ -39,12 +73,5 @@ returns c =
 
 pub screened-spec : {M : Type 1} → statement M
 screened-spec =
-    tie.close
-    (tie.spec
-    (λ c κs. let asked = c .before .pre in (asked .accepted, asked .read))
-    (λ c κs. let asked = c .before .before .pre in (asked .accepted, asked .read))
-    judged-requires
-    (λ c κs. some-members (c .before .before .before .before .before .before .before .before .before .pre))
-    (λ c κs. some-members (c .before .before .before .before .before .before .before .before .before .before .before .before .pre))
-    working-levels-requires
-    returns)
+    tie.close (tie.spec (search needs) factor-list-requires factor-list-requires-2 judged-requires alpha-sum-requires
+    alpha-sum-requires-2 working-levels-requires returns)
