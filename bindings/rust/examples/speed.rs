@@ -1,12 +1,12 @@
-//! Times the factor call for many rates, and a table of 200, beside the plain rewrite, at a book of 16 members and 64 feeds.
-//! The rewrite of a table searches for each entry, digit by digit, so its time is no measure of a plain program's, and no ratio
-//! is printed there.
+//! Times the factor call and a whole job for many rates, and a table of 200, beside the plain rewrite, at a book of 16 members and
+//! 64 feeds. The rewrite of a job allocates its text, and that of a table searches for each entry, digit by digit, so their times
+//! are no measure of a plain program's, and no ratio is printed there.
 #[path = "../tests/common/mod.rs"]
 mod common;
 
 use common::books::book_of;
 use common::random::Random;
-use common::{plain, plain_table};
+use common::{plain, plain_job, plain_table};
 use std::hint::black_box;
 use std::time::{Duration, Instant};
 
@@ -41,6 +41,36 @@ fn time_factors(book: &[u8]) {
     println!("speed: {RATES} rates, 16 members, 64 feeds: proved {proved:?}, plain u128 {rewrite:?}, ratio {ratio:.2}");
 }
 
+/// A dose job in indoor air at 4 pCi/L without uncertainty, for workers, with this book.
+fn job_of(book: &[u8]) -> Vec<u8> {
+    let mut job = vec![0, 0, 0, 0, 1, 0, 0, 0];
+    job.extend(6_195u32.to_le_bytes());
+    job.extend(1_000_000u32.to_le_bytes());
+    job.extend(4f64.to_le_bytes());
+    job.extend(0f64.to_le_bytes());
+    for field in [0, 0, 0, 0, 250, 25, 32, 60u16] {
+        job.extend(field.to_le_bytes());
+    }
+    job.extend(book);
+    job
+}
+
+fn time_report(book: &[u8]) {
+    let (mut job, mut room) = (job_of(book), [0; jelmorand::REPORT_ROOM]);
+    let mut proved_job = job.clone();
+    let proved = over_rates(|v| {
+        proved_job[..4].copy_from_slice(&v.to_le_bytes());
+        jelmorand::report_into(black_box(&proved_job), black_box(&mut room)).expect("room for any report");
+    });
+    let rewrite = over_rates(|v| {
+        job[..4].copy_from_slice(&v.to_le_bytes());
+        black_box(plain_job::report(black_box(&job)));
+    });
+    assert!(jelmorand::report(&job) == plain_job::report(&job), "the two reports differ");
+    assert!(jelmorand::screen(&job).is_ok(), "the job is refused");
+    println!("speed: {RATES} jobs, 16 members, 64 feeds: proved {proved:?}, plain u128, with a text on the heap {rewrite:?}");
+}
+
 fn time_table(book: &[u8]) {
     let rates: Vec<u32> = (0..200).map(|k| k * 500).collect();
     let (mut proved_text, mut plain_text) = ([0; jelmorand::TABLE_ROOM], [0; jelmorand::TABLE_ROOM]);
@@ -57,5 +87,6 @@ fn time_table(book: &[u8]) {
 fn main() {
     let book = book_of(&mut Random::fresh("speed"), 16, 64);
     time_factors(&book);
+    time_report(&book);
     time_table(&book);
 }
