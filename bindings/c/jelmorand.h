@@ -4,7 +4,8 @@
  * condition that a C caller must keep and that nothing checks: each pointer is not null, is aligned for its type, and has at
  * least as many elements behind it as the length after it says, also where that length is 0 (any element's address will do
  * then); and what `out` points to overlaps nothing else that is passed. A length is at most PTRDIFF_MAX bytes.
- * None of them allocates, blocks or keeps a pointer, and all may be called from several threads at once.
+ * None of them allocates, blocks or keeps a pointer, and all may be called from several threads at once. Of the stack a factor call
+ * takes under 2 KB, a report or a table under 3 KB, as measured.
  *
  * Every function answers an int64_t: the answer itself where it is not negative, and minus the number of the refusal otherwise,
  * as in  if (answer == -JELMORAND_BOOK_TOO_SHORT).
