@@ -78,22 +78,21 @@ module _ (book : List ℕ) (ranges : Ranges book) where
       (i : ℕ) → i < members book → getD half-lives i 0 ≡ halfLife book i
   half-life-held held i l = rw (held .half-life-array) (table-half-life i l)
 
-  module _ {firsts shares froms nexts : List ℕ} where
-    module _ (held : FeedsHeld book firsts shares froms nexts) where
-      pub first-held : (i : ℕ) → i < members book → getD firsts i 0 ≡ firstFeed book i
-      first-held i l = rw (held .first-array) (table-first i l)
+  module _ {firsts shares froms nexts : List ℕ} (held : FeedsHeld book firsts shares froms nexts) where
+    pub first-held : (i : ℕ) → i < members book → getD firsts i 0 ≡ firstFeed book i
+    first-held i l = rw (held .first-array) (table-first i l)
 
-      pub share-held : (j : ℕ) → (j ≡ 0 → ⊥) → j ≤ feedCount book → getD shares (j - 1) 0 ≡ share book j
-      share-held zero some le = absurd (some refl)
-      share-held (suc j) some le = rw (sub-one, held .share-array) (table-share j le)
+    pub share-held : (j : ℕ) → (j ≡ 0 → ⊥) → j ≤ feedCount book → getD shares (j - 1) 0 ≡ share book j
+    share-held zero some le = absurd (some refl)
+    share-held (suc j) some le = rw (sub-one, held .share-array) (table-share j le)
 
-      pub from-held : (j : ℕ) → (j ≡ 0 → ⊥) → j ≤ feedCount book → getD froms (j - 1) 0 ≡ from book j
-      from-held zero some le = absurd (some refl)
-      from-held (suc j) some le = rw (sub-one, held .from-array) (table-from j le)
+    pub from-held : (j : ℕ) → (j ≡ 0 → ⊥) → j ≤ feedCount book → getD froms (j - 1) 0 ≡ from book j
+    from-held zero some le = absurd (some refl)
+    from-held (suc j) some le = rw (sub-one, held .from-array) (table-from j le)
 
-      pub next-held : (j : ℕ) → (j ≡ 0 → ⊥) → j ≤ feedCount book → getD nexts (j - 1) 0 ≡ next book j
-      next-held zero some le = absurd (some refl)
-      next-held (suc j) some le = rw (sub-one, held .next-array) (table-next j le)
+    pub next-held : (j : ℕ) → (j ≡ 0 → ⊥) → j ≤ feedCount book → getD nexts (j - 1) 0 ≡ next book j
+    next-held zero some le = absurd (some refl)
+    next-held (suc j) some le = rw (sub-one, held .next-array) (table-next j le)
 
 -- The arrays of a table that was read of a book are the book's.
 pub table-held :

@@ -1,12 +1,12 @@
 -- What is worked out from the arrays that the code holds of an accepted book is the book's own: each number and each factor of a member
 -- stands in its place.
-use Prim.Native.Nat.{ℕ, _+_, _*_, _^_, _≤_, _<_}
+use Prim.Native.Nat.{ℕ, _+_, _*_, _≤_, _<_}
 use native.Mathlib.Omega.{arith}
 use mathlib.Core.Path.{_≡_, ap, ap₂, _∙_}
 use mathlib.Core.List.{List}
 use lib.ListN.{getD, replicate}
 use Rattle.book.specs.Limits.{maxMembers}
-use Rattle.book.specs.Fields.{members, coefficientCount, coefficient}
+use Rattle.book.specs.Fields.{members, workingLevelDivisor, coefficientCount, coefficient}
 use Rattle.book.specs.Table.{tableOf}
 use Rattle.book.specs.declared.table.ChainTable.{ChainTable}
 use Rattle.book.proofs.Ranges.{Ranges, accepted-ranges}
@@ -18,13 +18,12 @@ use Rattle.exposure.specs.declared.kind.Kind.{Kind}
 use Rattle.screening.specs.Verdict.{inhalation, submersion, boundOf}
 use Rattle.screening.specs.WorkingLevels.{alphaWeight, alphaSum, workingLevels}
 use Rattle.screening.specs.Screening.{assessmentAt, alphaAt, figuresAt, screenedAt}
-use Rattle.screening.specs.Private.Tabled.{numberIn, assessmentIn, judgedOn, Judgeable, WorkingInRange}
+use Rattle.screening.specs.Private.Tabled.{numberIn, assessmentIn, judgedOn, alphaIn, figuresBy, figuresIn, Figurable}
 use Rattle.screening.specs.Private.Checks.{Screenable}
 use Rattle.screening.specs.declared.job.Answer.{Answer}
+use Rattle.screening.specs.declared.job.Figures.{Figures}
 use Rattle.screening.specs.declared.job.Outcome.{Outcome}
 use Rattle.screening.specs.declared.verdict.Criterion.{Criterion}
-use Rattle.screening.specs.declared.verdict.Judgement.{Judgement}
-use Rattle.screening.specs.declared.working.WorkingLevels.{WorkingLevels}
 use Rattle.screening.proofs.Alike.{alpha-same, judged-same}
 use Rattle.screening.proofs.Falling.{alpha-falls}
 
@@ -80,55 +79,49 @@ module _ {by : Criterion} {v C : ℕ} {book : List ℕ} {table : ChainTable} (as
       (λ i l. number-is i alphaWeight l (omega arith))
       (factor-is u within)
 
-  pub some-members : (1 ≤ table .members) × (table .members ≤ maxMembers)
-  some-members = (rw count-is (ranges .members-count .from), rw count-is (ranges .members-count .to))
-
   -- what the code has made of the factors at the rate and at rate 0
   module _ {made zeroed : List ℕ} (at-rate : made ≡ list v) (at-zero : zeroed ≡ list 0) where
-    pub judgeable : Judgeable by C (table .members) made
-    judgeable =
+    rate-is : alphaIn (table .members) (table .coefficients) made ≡ alphaAt book (coefficient book) v
+    rate-is = rw at-rate (alpha-of-book v (asked .rate))
+
+    zero-is : alphaIn (table .members) (table .coefficients) zeroed ≡ alphaAt book (coefficient book) 0
+    zero-is = rw at-zero (alpha-of-book 0 (omega arith))
+
+    divisor-is : table .divisor ≡ workingLevelDivisor book
+    divisor-is = ap (λ t. t .divisor) read ∙ table-divisor book ranges
+
+    pub figurable : Figurable by C (table .members) (table .divisor) (table .coefficients) made zeroed
+    figurable =
         record {
-          target = asked .target;
-          concentration = asked .concentration;
-          members = some-members .1;
-          capped = λ i l.
-              let m : i < members book = rw count-is at l in
-              rw (at-rate, factor-is v (asked .rate) i m) (factor-at-most-G book v i (asked .accepted) m);
+          judgeable =
+              record {
+                target = asked .target;
+                concentration = asked .concentration;
+                members = rw count-is (ranges .members-count .to);
+                capped = λ i l.
+                    let m : i < members book = rw count-is at l in
+                    rw (at-rate, factor-is v (asked .rate) i m) (factor-at-most-G book v i (asked .accepted) m);
+              };
+          some-members = rw count-is (ranges .members-count .from);
+          falls = rw (rate-is, zero-is) (alpha-falls book (coefficient book) 0 v (asked .accepted) (omega arith) (asked .rate));
+          some-divisor = rw divisor-is (ranges .divisor);
         }
 
-    -- what `alpha_sum` answers
-    abbrev Alpha : List ℕ → ℕ → Type 0
-    Alpha factors sum = sum ≡ alphaSum (table .members) (numberIn (table .coefficients)) (λ i. getD factors i 0)
+    working-are :
+        workingLevels (alphaIn (table .members) (table .coefficients) made) (alphaIn (table .members) (table .coefficients) zeroed) C (table .divisor)
+        ≡ workingLevels (alphaAt book (coefficient book) v) (alphaAt book (coefficient book) 0) C (workingLevelDivisor book)
+    working-are = rw (rate-is, zero-is, divisor-is)
 
-    module _ {atRate atZero : ℕ} (rate : Alpha made atRate) (zero : Alpha zeroed atZero) where
-      rate-is : atRate ≡ alphaAt book (coefficient book) v
-      rate-is = (rw at-rate at rate) ∙ alpha-of-book v (asked .rate)
+    figures-are : figuresIn by C (table .members) (table .divisor) (table .coefficients) made zeroed ≡ figuresAt by book (coefficient book) v C
+    unfolding figuresAt
+    figures-are =
+        let judged-is = ap (λ l. judgedOn (assessmentIn by (table .members) (table .coefficients) l) C) at-rate ∙ judged-of-book in
+        ap₂ (figuresBy C) judged-is working-are
 
-      zero-is : atZero ≡ alphaAt book (coefficient book) 0
-      zero-is = (rw at-zero at zero) ∙ alpha-of-book 0 (omega arith)
-
-      pub workable : atZero ≤ 2 ^ 117 → WorkingInRange atRate atZero C (table .divisor)
-      workable small =
-          record {
-            falls = rw (rate-is, zero-is) (alpha-falls book (coefficient book) 0 v (asked .accepted) (omega arith) (asked .rate));
-            sums = small;
-            concentration = asked .concentration;
-            some-divisor = rw (read, table-divisor book ranges) (ranges .divisor);
-          }
-
-      pub screened-is :
-          {judged : Judgement} {working : WorkingLevels}
-          → judged ≡ judgedOn (assessmentIn by (table .members) (table .coefficients) made) C
-          → working ≡ workingLevels atRate atZero C (table .divisor)
-          → _≡_ {A = Answer}
-          (record {
-            outcome = Outcome.Screened (record { concentration = C; verdict = judged .verdict; level = judged .level; working = working });
-            factors = made;
-            count = table .members;
-          })
-          (screenedAt by book (coefficient book) v C)
-      unfolding figuresAt
-      screened-is found working =
-          let judged-is = (rw at-rate at found) ∙ judged-of-book in
-          let divisor-is = ap (λ t. t .divisor) read ∙ table-divisor book ranges in
-          rw (judged-is, working, rate-is, zero-is, count-is, divisor-is, at-rate)
+    pub screened-is :
+        {figures : Figures}
+        → figures ≡ figuresIn by C (table .members) (table .divisor) (table .coefficients) made zeroed
+        → _≡_ {A = Answer}
+        (record { outcome = Outcome.Screened figures; factors = made; count = table .members })
+        (screenedAt by book (coefficient book) v C)
+    screened-is found = rw (found ∙ figures-are, count-is, at-rate)

@@ -7,6 +7,7 @@ use crate::verdict::judged;
 use crate::working::alpha_sum;
 use crate::working::working_levels;
 use balance::factors_read;
+use book::COEFFICIENTS;
 use book::MAX_FEEDS;
 use book::MAX_MEMBERS;
 use book::read_table;
@@ -20,6 +21,7 @@ ghost use Rattle.book.specs.Table.{ChainHeld};
 ghost use Rattle.balance.specs.Factors.{factorList};
 ghost use Rattle.screening.specs.Screening.{screenedAt};
 ghost use Rattle.screening.specs.Private.Checks.{Screenable};
+ghost use Rattle.screening.specs.Private.Tabled.{figuresIn, Figurable};
 
 // The factors at a rate, in an array of zeros, of an accepted book whose arrays are lent.
 fn factor_list<'a>(
@@ -50,6 +52,31 @@ fn factor_list<'a>(
     list
 }
 
+// The figures at a concentration, from the members' numbers and from their factors at the rate and at rate 0.
+fn figures_of(
+    by: Criterion,
+    concentration: u64,
+    count: usize,
+    divisor: u16,
+    coefficients: &[u32; COEFFICIENTS * MAX_MEMBERS],
+    list: &[u64; MAX_MEMBERS],
+    at_zero: &[u64; MAX_MEMBERS],
+) -> Figures
+    requires { ⌜ Figurable by concentration count divisor (now coefficients) (now list) (now «at_zero») ⌝ }
+    ensures { λ r. ⌜ r ≡ figuresIn by concentration count divisor (now (coefficients .entry)) (now (list .entry)) (now («at_zero» .entry)) ⌝ }
+{
+    let found = judged(by, concentration, count, coefficients, list);
+    let alpha = alpha_sum(count, coefficients, list);
+    let alpha_at_zero = alpha_sum(count, coefficients, at_zero);
+    let verdict = found.verdict;
+    Figures {
+        concentration,
+        verdict,
+        level: found.level,
+        working: working_levels(alpha, alpha_at_zero, concentration, divisor),
+    }
+}
+
 // The answer for a book that is checked, at a rate and a concentration. The book is read once, and its arrays are lent.
 pub(crate) fn screened(by: Criterion, v: u32, concentration: u64, book: &[u8]) -> Answer
     requires { ⌜ Screenable by v concentration (now book) ⌝ }
@@ -75,17 +102,16 @@ pub(crate) fn screened(by: Criterion, v: u32, concentration: u64, book: &[u8]) -
         &table.nexts,
     );
     let count = table.members;
-    let found = judged(by, concentration, count, &table.coefficients, &list);
-    let alpha = alpha_sum(count, &table.coefficients, &list);
-    let alpha_at_zero = alpha_sum(count, &table.coefficients, &at_zero);
     let divisor = table.divisor;
-    let verdict = found.verdict;
-    let figures = Figures {
+    let figures = figures_of(
+        by,
         concentration,
-        verdict,
-        level: found.level,
-        working: working_levels(alpha, alpha_at_zero, concentration, divisor),
-    };
+        count,
+        divisor,
+        &table.coefficients,
+        &list,
+        &at_zero,
+    );
     Answer {
         outcome: Outcome::Screened(figures),
         factors: list,

@@ -8,8 +8,11 @@ use Rattle.balance.specs.Balance.{G}
 use Rattle.reading.specs.Reading.{maxConcentration}
 use Rattle.screening.specs.JobGrounds.{maxTarget}
 use Rattle.screening.specs.Verdict.{Assessment, weightOf, boundOf, verdictAt, level}
+use Rattle.screening.specs.WorkingLevels.{alphaSum, workingLevels}
+use Rattle.screening.specs.declared.job.Figures.{Figures}
 use Rattle.screening.specs.declared.verdict.Criterion.{Criterion}
 use Rattle.screening.specs.declared.verdict.Judgement.{Judgement}
+use Rattle.screening.specs.declared.working.WorkingLevels.{WorkingLevels}
 
 -- A member's five numbers stand together.
 abbrev pub numberIn : List ℕ → ℕ → ℕ → ℕ
@@ -39,4 +42,23 @@ pub record WorkingInRange (atRate atZero C W : ℕ) : Type 0 where
   pub falls : atRate ≤ atZero
   pub sums : atZero ≤ 2 ^ 117
   pub concentration : C ≤ maxConcentration
+  pub some-divisor : 0 < W
+
+-- The figures that a book's numbers and divisor and two arrays of factors give, at the rate and at rate 0, and what is asked of them.
+abbrev pub alphaIn : ℕ → List ℕ → List ℕ → ℕ
+alphaIn count coefficients factors = alphaSum count (numberIn coefficients) (λ i. getD factors i 0)
+
+abbrev pub figuresBy : ℕ → Judgement → WorkingLevels → Figures
+figuresBy C judged working = record { concentration = C; verdict = judged .verdict; level = judged .level; working = working }
+
+abbrev pub figuresIn : Criterion → ℕ → ℕ → ℕ → List ℕ → List ℕ → List ℕ → Figures
+figuresIn by C count W coefficients factors atZero =
+    figuresBy C
+    (judgedOn (assessmentIn by count coefficients factors) C)
+    (workingLevels (alphaIn count coefficients factors) (alphaIn count coefficients atZero) C W)
+
+pub record Figurable (by : Criterion) (C count W : ℕ) (coefficients factors atZero : List ℕ) : Type 0 where
+  pub judgeable : Judgeable by C count factors
+  pub some-members : 1 ≤ count
+  pub falls : alphaIn count coefficients factors ≤ alphaIn count coefficients atZero
   pub some-divisor : 0 < W

@@ -1,7 +1,7 @@
 -- `screening::screened::screened` meets its contract: what is worked out from the book's table and the factors' arrays is the book's own.
 use borrow.Author.Needs.{needs}
 use Rattle.book.proofs.TableFields.{table-held}
-use Rattle.screening.proofs.Tabled.{judgeable, some-members, workable, screened-is}
+use Rattle.screening.proofs.Tabled.{figurable, screened-is}
 use Rattle.screening.proofs.screened.screened.Statement.{statement}
 use Rattle.screening.proofs.screened.screened.Tie as tie
 
@@ -25,53 +25,23 @@ factor-list-requires-2 c κs =
     let table = read (c .before .before .before .before .before .before) in
     (start table .pre .accepted, table-held (table .read-table .ensures))
 
-judged-requires : tie.Need-judged-requires
-judged-requires c κs =
-    let zeroed = c .before .before .before in
+figures-of-requires : tie.Need-figures-of-requires
+figures-of-requires c κs =
+    let zeroed = c .before .before .before .before in
     let table = read (made zeroed) in
-    judgeable (start table .pre) (table .read-table .ensures) (made zeroed .factor-list .ensures) (zeroed .factor-list2 .ensures)
-
-alpha-sum-requires : tie.Need-alpha-sum-requires
-alpha-sum-requires c κs =
-    let table = read (made (c .before .before .before .before .before .before .before)) in
-    some-members (start table .pre) (table .read-table .ensures)
-
-alpha-sum-requires-2 : tie.Need-alpha-sum-requires-2
-alpha-sum-requires-2 c κs =
-    let table = read (made (c .before .before .before .before .before .before .before .before .before .before .before)) in
-    some-members (start table .pre) (table .read-table .ensures)
-
-working-levels-requires : tie.Need-working-levels-requires
-working-levels-requires c κs =
-    let alpha = c .before .before .before .before in
-    let zeroed = alpha .before .before .before .before .before .before .before .before in
-    let table = read (made zeroed) in
-    workable
-    (start table .pre)
-    (table .read-table .ensures)
-    (made zeroed .factor-list .ensures)
-    (zeroed .factor-list2 .ensures)
-    (alpha .alpha-sum .ensures .0)
-    (c .alpha-sum2 .ensures .0)
-    (c .alpha-sum2 .ensures .1)
+    figurable (start table .pre) (table .read-table .ensures) (made zeroed .factor-list .ensures) (zeroed .factor-list2 .ensures)
 
 returns : tie.Need-returns
 returns c =
-    let alpha = c .before .before .before .before .before in
-    let judged = alpha .before .before .before .before in
-    let zeroed = judged .before .before .before .before in
+    let zeroed = c .before .before .before .before .before in
     let table = read (made zeroed) in
     screened-is
     (start table .pre)
     (table .read-table .ensures)
     (made zeroed .factor-list .ensures)
     (zeroed .factor-list2 .ensures)
-    (alpha .alpha-sum .ensures .0)
-    (c .before .alpha-sum2 .ensures .0)
-    (judged .judged .ensures)
-    (c .working-levels .ensures)
+    (c .figures-of .ensures)
 
 pub screened-spec : {M : Type 1} → statement M
 screened-spec =
-    tie.close (tie.spec (search needs) factor-list-requires factor-list-requires-2 judged-requires alpha-sum-requires
-    alpha-sum-requires-2 working-levels-requires returns)
+    tie.close (tie.spec (search needs) factor-list-requires factor-list-requires-2 figures-of-requires returns)
