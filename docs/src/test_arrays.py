@@ -2,10 +2,11 @@
 
     test_arrays.py
 
-Every place where these crates write an array type or an array literal must be on the list below. A factor takes 41 bits, so an array of narrower elements holds none; the one with wider elements is that of the half-lives, and the crate
-that works out the factors has it lent, as it has every other array: it owns none and writes to none. What the search would miss is
-tried too: spare lists, put into the source in several ways, must each be found. Prints the arrays that the factor call meets on
-its way, with their bytes.
+Every place where these crates write an array type or an array literal must be on the list below. A factor takes 41 bits, so an
+array of narrower elements holds none; the one with wider elements is that of the half-lives, and the crate that works out the
+factors has it lent, as it has every other array: it owns none and writes to none. What the search would miss is tried too: spare
+lists, put into the source in several ways, must each be found. Prints the arrays that the factor call meets on its way, with
+their bytes.
 """
 
 import math
