@@ -24,6 +24,6 @@ value-below a s =
     subst (λ (l : List ℕ). value l < modulus) (listed-same a (s .six))
     (bound (s .each 0 .fits) (bound (s .each 1 .fits) (bound (s .each 2 .fits) (bound (s .each 3 .fits) (bound (s .each 4 .fits) (bound (s .each 5 .fits) (lit< {m = 0} {n = 1} tt)))))))
 
--- what is below the modulus and equal to a number but for multiples of the modulus is its remainder
-pub remainder-is : {r total : ℕ} (carry : ℕ) → total ≡ r + modulus * carry → r < modulus → r ≡ total % modulus
-remainder-is {r} {total} carry e h = rw e (sym (add-mul-mod-self-left r modulus carry ∙ mod-eq-of-lt h))
+-- what is below m and equal to a number but for multiples of m is its remainder
+pub remainder-is : {r total m : ℕ} (k : ℕ) → total ≡ r + m * k → r < m → r ≡ total % m
+remainder-is {r} {total} {m} k e h = rw e (sym (add-mul-mod-self-left r m k ∙ mod-eq-of-lt h))

@@ -8,6 +8,7 @@ mod Guess
 mod Halves
 mod Halving
 mod HighestLimb
+mod HighWord
 mod Limbs
 mod LongDivision
 mod Scaling

@@ -6,8 +6,9 @@ use native.Mathlib.Nat.{mod-eq-of-lt}
 use borrow.Author.Tests.{leb-true, leb-false}
 use lib.Dec.{leb}
 
--- Results are exact modulo 2^192, a product's quotient modulo 2^64. Where the exact result is below that, the modulo vanishes.
--- For `sum` the exact result is `value a + value b`, for `multiple` `value a * k`, for `product_quotient` `f * k / d`.
+-- Results are exact modulo 2^192, the quotients of products modulo 2^64. Where the exact result is below that, the modulo vanishes.
+-- For `sum` the exact result is `value a + value b`, for `multiple` `value a * k`, for `product_quotient` `f * k / d`, and for
+-- `products_quotient` `(a * b + c * d) / e`.
 pub exact : {r whole top : ℕ} → r ≡ whole % top → whole < top → r ≡ whole
 exact e h = e ∙ mod-eq-of-lt h
 

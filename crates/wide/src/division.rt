@@ -1,8 +1,9 @@
-// The quotient of a product of two words.
+// The quotient of a product of two words, and of the sum of two such products.
 ghost use mathlib.Core.Path.{_≡_};
 ghost use Prim.Native.Nat.{_+_, _*_, _/_, _%_, _^_, _≤_, _<_};
 use crate::digit::digit;
 use crate::product::product;
+use std::num::wrapping_add_u64;
 
 // f times k, divided by d and rounded down, modulo 2^64: 0 where d is 0.
 pub fn product_quotient(f: u64, k: u64, d: u64) -> u64
@@ -13,6 +14,42 @@ pub fn product_quotient(f: u64, k: u64, d: u64) -> u64
     }
     let words = product(f, k);
     word_quotient(remainder(words.high, d), words.low, d)
+}
+
+// a times b plus c times d, divided by e and rounded down, modulo 2^64: 0 where e is 0.
+pub fn products_quotient(a: u64, b: u64, c: u64, d: u64, e: u64) -> u64
+    ensures { λ r. ⌜ r ≡ (a * b + c * d) / e % 2 ^ 64 ⌝ }
+{
+    if e == 0 {
+        return 0;
+    }
+    let first = product(a, b);
+    let second = product(c, d);
+    let high = sum_remainder(first.high, second.high, e);
+    let carry = sum_carry(first.low, second.low);
+    let low = wrapping_add_u64(first.low, second.low);
+    word_quotient(sum_remainder(high, carry, e), low, e)
+}
+
+// What d leaves of x + y, which may pass a word: the two remainders' sum, or where that reaches d what is over d.
+fn sum_remainder(x: u64, y: u64, d: u64) -> u64
+    requires { ⌜ 0 < d ⌝ }
+    ensures { λ r. ⌜ r ≡ (x + y) % d ⌝ }
+{
+    let first = remainder(x, d);
+    let second = remainder(y, d);
+    let room = d - second;
+    if first < room {
+        return first + second;
+    }
+    first - room
+}
+
+// What x + y carries out of a word.
+fn sum_carry(x: u64, y: u64) -> u64
+    ensures { λ r. ⌜ r ≡ (x + y) / 2 ^ 64 ⌝ }
+{
+    if x <= u64::MAX - y { 0 } else { 1 }
 }
 
 // What d leaves of x. The high word is mostly below d already, and a test costs less than a division.

@@ -12,5 +12,6 @@ pub use arithmetic::from_u64;
 pub use arithmetic::multiple;
 pub use arithmetic::sum;
 pub use division::product_quotient;
+pub use division::products_quotient;
 pub use order::at_most;
 pub use quotient::capped_quotient;
