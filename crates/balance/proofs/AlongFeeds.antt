@@ -12,7 +12,7 @@ use Rattle.book.proofs.Ranges.{Ranges, FeedRanges, accepted-ranges}
 use Rattle.book.proofs.TableFields.{first-held, share-held, from-held, next-held}
 use Rattle.balance.specs.Chain.{feedOf, chainOf}
 use Rattle.balance.specs.Balance.{inflow}
-use Rattle.balance.specs.Private.Fillable.{Fed}
+use Rattle.balance.specs.Inflow.{Fed}
 
 module _ (book factors : List ℕ) where
   -- The inflow of the feeds from j on.

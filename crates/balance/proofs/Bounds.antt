@@ -57,6 +57,11 @@ module _ {scale : ℕ} {chain : Chain} {rate : ℕ → ℕ} (pos : 0 < scale) (s
         let flow = member-bound sound x 0 i l (kept rate sound i x (λ k h. le-of-eq (exact .later k h))) in
         le-of-mul-le-mul-left {k = scale} (omega (arith, ap (λ t. scale * t) (exact .parent))) pos
 
+    pub exact-inflow : suc i < chain .count → inflowOf x (chain .feeds (suc i)) ≤ scale * P
+    exact-inflow more =
+        let flow = inflow-bound sound x 0 i more (kept rate sound i x (λ k h. le-of-eq (exact .later k h))) in
+        omega (arith, ap (λ t. scale * t) (exact .parent))
+
     module _ {r : ℕ → ℕ} (reported : ReportedFactors scale chain rate i r) where
       pub below-exact : (k : ℕ) → k ≤ i → P * r k ≤ G * x k
       below-exact =

@@ -8,11 +8,11 @@ use mathlib.Core.Logic.{_⊎_, inl, inr}
 use lib.ListN.{getD}
 use Rattle.balance.specs.Chain.{Chain}
 use Rattle.balance.specs.Private.Sound.{Sound}
-use Rattle.balance.specs.Balance.{G, K, inflow, removal, reported, reportedFactor}
+use Rattle.balance.specs.Balance.{G, K, removal, reportedFactor}
 use Rattle.balance.specs.Exact.{numerators, denominator}
-use Rattle.balance.proofs.Inflow.{inflowOf, inflow-of-list, inflow-same, inflow-scaled}
+use Rattle.balance.proofs.Inflow.{inflowOf, inflow-of-list, inflow-scaled}
 use Rattle.balance.proofs.Numerators.{numerators-earlier, numerators-next}
-use Rattle.balance.proofs.Reported.{reported-factor, reported-next}
+use Rattle.balance.proofs.Reported.{reported-parent, reported-later}
 
 -- Of members 0 to i.
 pub record ReportedFactors (scale : ℕ) (chain : Chain) (rate : ℕ → ℕ) (i : ℕ) (r : ℕ → ℕ) : Type 0 where
@@ -32,28 +32,11 @@ scaled K s D c x y inflow scaledInflow ey ei e =
     omega arith
 
 module _ (scale : ℕ) (chain : Chain) (rate : ℕ → ℕ) (sound : Sound scale chain) where
-  pub inflow-reported :
-      (k : ℕ)
-      → suc k < chain .count
-      → inflow (reported scale chain rate k) (chain .feeds (suc k)) ≡ inflowOf (reportedFactor scale chain rate) (chain .feeds (suc k))
-  inflow-reported k l =
-      inflow-of-list (reported scale chain rate k) (chain .feeds (suc k))
-      ∙ inflow-same
-      (λ j. getD (reported scale chain rate k) j 0)
-      (reportedFactor scale chain rate)
-      (suc k)
-      (chain .feeds (suc k))
-      (sound .from-lower (suc k) l)
-      (λ j h. reported-factor scale chain rate k j (omega arith))
-
   pub reported-solves : (i : ℕ) → i < chain .count → ReportedFactors scale chain rate i (reportedFactor scale chain rate)
-  unfolding reported
   reported-solves i l =
       record {
-        parent = refl;
-        later = λ k h.
-            reported-next scale chain rate k
-            ∙ ap (λ y. y / scale * K / removal chain rate (suc k)) (inflow-reported k (omega arith));
+        parent = reported-parent scale chain rate;
+        later = λ k h. reported-later scale chain rate sound k (omega arith);
       }
 
   one-more :

@@ -4,6 +4,7 @@
 pub mod Inflow
 pub mod Origin
 pub mod Flow
+pub mod MemberOrder
 pub mod Reported
 pub mod Numerators
 pub mod Equations
@@ -21,8 +22,9 @@ pub mod AcceptedSound
 -- The fill.
 pub mod Quotients
 pub mod AlongFeeds
+pub mod FilledInOrder
 pub mod FilledFactors
 -- The call, and the promises.
-pub mod CallPasses
 pub mod CallAnswers
+pub mod CallPasses
 pub mod Promised

@@ -3,9 +3,9 @@
 use Prim.Native.Nat.{ℕ, _-_, _≤_, _<_}
 use native.Mathlib.Nat.{le-refl}
 use native.Mathlib.Omega.{arith}
-use mathlib.Core.Path.{_≡_, refl, ap, subst, sym, _∙_}
+use mathlib.Core.Path.{_≡_, ap, subst, sym, _∙_}
 use mathlib.Core.List.{List}
-use lib.ListN.{length, getD, List·getD-append}
+use lib.ListN.{length, getD}
 use Rattle.refusals.specs.Grounds.{firstMet}
 use Rattle.refusals.specs.declared.Checked.{Checked}
 use Rattle.book.specs.BookGrounds.{Accepted}
@@ -13,7 +13,7 @@ use Rattle.book.specs.Fields.{members, scaleOf}
 use Rattle.balance.specs.Rates.{ratesAt}
 use Rattle.balance.specs.Chain.{chainOf}
 use Rattle.balance.specs.Balance.{G}
-use Rattle.balance.specs.Factors.{factorGrounds, factorAt, factorsAt, filledIf, writtenIf, factorAnswer, factorList}
+use Rattle.balance.specs.Factors.{factorGrounds, factorAt, factorsAt, filledIf, factorAnswer, factorList}
 use Rattle.balance.specs.Promises.{FactorPromise, FallPromise, ListPromise, FactorPromises}
 use Rattle.balance.specs.declared.FactorAnswer.{FactorAnswer}
 use Rattle.balance.proofs.AcceptedSound.{accepted-sound}
@@ -21,11 +21,7 @@ use Rattle.balance.proofs.Reported.{reported-factor}
 use Rattle.balance.proofs.SoundFactors.{factor-promise, fall-promise, reported-at-most-G}
 use Rattle.balance.specs.Private.Fillable.{CallPasses}
 use Rattle.balance.proofs.CallPasses.{call-passes, passing-call}
-use Rattle.balance.proofs.CallAnswers.{factors-length}
-
-filled-passed : (found : Checked) (count n : ℕ) → filledIf found count ≡ FactorAnswer.Filled n → (found ≡ Checked.Passed) × (count ≡ n)
-filled-passed Checked.Passed count n e = (refl, cc)
-filled-passed (Checked.Refused r) count n e = absurd (let z : _≡_ {A = ℕ} 0 1 = cc in omega arith)
+use Rattle.balance.proofs.CallAnswers.{filled-passed, place-holds, factors-length}
 
 module _ (v : ℕ) (book list : List ℕ) {n : ℕ} (answered : factorAnswer v book (length list) ≡ FactorAnswer.Filled n) where
   abbrev found : Checked
@@ -44,8 +40,7 @@ module _ (v : ℕ) (book list : List ℕ) {n : ℕ} (answered : factorAnswer v b
   filled-place i l =
       let count = passed .1 in
       let size = factors-length book v (filled-call .accepted) in
-      ap (λ result. getD (writtenIf result (factorsAt book v) list) i 0) (passed .0)
-      ∙ List·getD-append (factorsAt book v) _ 0 i (omega arith)
+      place-holds (factorsAt book v) list (passed .0) i (omega arith)
       ∙ reported-factor (scaleOf book) (chainOf book) (ratesAt book v) (members book - 1) i (omega arith)
 
   within : (i : ℕ) → i < n → i < members book

@@ -1,37 +1,37 @@
--- The list of reported factors: one for each member, and a new member leaves the earlier ones as they were.
--- Each step only appends, and what it appends reads the chain and the rate at the new member alone.
-use Prim.Native.Nat.{ℕ, zero, suc, _≤_, _/_, _*_}
-use native.Mathlib.Decide.{le-ind}
-use native.Mathlib.Omega.{arith}
-use mathlib.Core.Path.{_≡_, refl, _∙_}
-use lib.ListN.{length, getD, length-append, List·getD-append}
-use lib.Seq.{getD-at}
+-- The reported factors are made in member order: its laws, of them.
+use Prim.Native.Nat.{ℕ, suc, _≤_, _<_, _/_, _*_}
+use mathlib.Core.Path.{_≡_}
+use lib.ListN.{length, getD}
 use Rattle.balance.specs.Chain.{Chain}
-use Rattle.balance.specs.Balance.{K, inflow, removal, reported, reportedFactor}
+use Rattle.balance.specs.Private.Sound.{Sound}
+use Rattle.balance.specs.Balance.{G, K, inflow, removal, reported, reportedFactor}
+use Rattle.balance.proofs.Inflow.{inflowOf}
+use Rattle.balance.proofs.MemberOrder.{made-length, made-at, made-parent, made-inflow, made-later}
 
 module _ (scale : ℕ) (chain : Chain) (rate : ℕ → ℕ) where
+  -- The part of a member's inflow that stays in the room.
+  abbrev pub keptPart : ℕ → ℕ → ℕ
+  keptPart i fed = fed / scale * K / removal chain rate i
+
   pub reported-length : (i : ℕ) → length (reported scale chain rate i) ≡ suc i
   unfolding reported
-  reported-length zero = refl
-  reported-length (suc i) = let ih = reported-length i in simp length-append (omega arith)
-
-  -- Earlier factors do not change.
-  pub reported-stable : (i k : ℕ) → k ≤ i → getD (reported scale chain rate (suc i)) k 0 ≡ getD (reported scale chain rate i) k 0
-  unfolding reported
-  reported-stable i k le = List·getD-append (reported scale chain rate i) _ 0 k (omega (arith, reported-length i))
+  reported-length = made-length chain keptPart
 
   pub reported-factor : (i k : ℕ) → k ≤ i → getD (reported scale chain rate i) k 0 ≡ reportedFactor scale chain rate k
-  reported-factor i k le =
-      le-ind
-      (λ m. getD (reported scale chain rate m) k 0 ≡ reportedFactor scale chain rate k)
-      refl
-      (λ m h ih. reported-stable m k h ∙ ih)
-      i
-      le
-
-  pub reported-next :
-      (i : ℕ)
-      → reportedFactor scale chain rate (suc i)
-      ≡ inflow (reported scale chain rate i) (chain .feeds (suc i)) / scale * K / removal chain rate (suc i)
   unfolding reported
-  reported-next i = getD-at (reported scale chain rate i) _ _ 0 (suc i) (reported-length i)
+  reported-factor = made-at chain keptPart
+
+  pub reported-parent : reportedFactor scale chain rate 0 ≡ G
+  unfolding reported
+  reported-parent = made-parent chain keptPart
+
+  module _ (sound : Sound scale chain) (k : ℕ) (l : suc k < chain .count) where
+    pub inflow-reported : inflow (reported scale chain rate k) (chain .feeds (suc k)) ≡ inflowOf (reportedFactor scale chain rate) (chain .feeds (suc k))
+    unfolding reported
+    inflow-reported = made-inflow chain keptPart sound k l
+
+    pub reported-later :
+        reportedFactor scale chain rate (suc k)
+        ≡ inflowOf (reportedFactor scale chain rate) (chain .feeds (suc k)) / scale * K / removal chain rate (suc k)
+    unfolding reported
+    reported-later = made-later chain keptPart sound k l

@@ -10,9 +10,9 @@ use Rattle.balance.specs.Private.Sound.{Sound}
 use Rattle.balance.specs.Balance.{G, inflow, reported, reportedFactor}
 use Rattle.balance.specs.Exact.{numerators, denominator}
 use Rattle.balance.specs.Promises.{FactorPromise, FallPromise}
-use Rattle.balance.proofs.Reported.{reported-factor}
+use Rattle.balance.proofs.Reported.{reported-factor, inflow-reported}
 use Rattle.balance.proofs.Numerators.{denominator-pos}
-use Rattle.balance.proofs.Equations.{reported-solves, exact-solves, inflow-reported}
+use Rattle.balance.proofs.Equations.{reported-solves, exact-solves}
 use Rattle.balance.proofs.Bounds.{reported-at-most, reported-inflow, exact-at-most, below-exact, less-than-2i}
 use Rattle.balance.proofs.Monotone.{reported-falls-along, exact-falls-along}
 

@@ -21,12 +21,16 @@ abbrev pub inflow : List ℕ → List Feed → ℕ
 inflow factors [] = 0
 inflow factors (feed ∷ feeds) = feed .share * getD factors (feed .from) 0 + inflow factors feeds
 
+-- The factors of members 0 to i, made in member order: the parent has G, and each later member what `part` makes of its inflow.
+unfoldable pub inMemberOrder : Chain → (ℕ → ℕ → ℕ) → ℕ → List ℕ
+inMemberOrder chain part zero = G ∷ []
+inMemberOrder chain part (suc i) =
+    let factors = inMemberOrder chain part i in
+    factors ++ (part (suc i) (inflow factors (chain .feeds (suc i))) ∷ [])
+
 -- The reported factors of members 0 to i, in grains; each division is rounded down.
 unfoldable pub reported : ℕ → Chain → (ℕ → ℕ) → ℕ → List ℕ
-reported scale chain rate zero = G ∷ []
-reported scale chain rate (suc i) =
-    let factors = reported scale chain rate i in
-    factors ++ (inflow factors (chain .feeds (suc i)) / scale * K / removal chain rate (suc i) ∷ [])
+reported scale chain rate = inMemberOrder chain (λ i fed. fed / scale * K / removal chain rate i)
 
 abbrev pub reportedFactor : ℕ → Chain → (ℕ → ℕ) → ℕ → ℕ
 reportedFactor scale chain rate i = getD (reported scale chain rate i) i 0

@@ -1,4 +1,5 @@
 // The steady balance of a branched decay chain under ventilation: from a chain book and a rate to the share of each daughter in the air.
+mod feeds;
 mod fill;
 mod limits;
 
@@ -7,7 +8,9 @@ use book::MAX_MEMBERS;
 use book::check_book;
 use book::member_count;
 use book::read_table;
+pub use feeds::inflow_of;
 use fill::fill;
+pub use limits::DECAY;
 pub use limits::GRAINS;
 pub use limits::MAX_RATE;
 use refusals::Checked;

@@ -7,4 +7,4 @@ pub const MAX_RATE: u32 = 100_000;
 pub const GRAINS: u64 = 1_099_511_627_776;
 
 // K, which holds ln 2.
-pub(crate) const DECAY: u64 = 249_532_985_160_000;
+pub const DECAY: u64 = 249_532_985_160_000;

@@ -54,5 +54,11 @@ filled-more {f} {list} {n} {i} {now} {v} h l e =
           (sym (append-assoc (upTo i f) (f i ∷ []) (drop (suc i) list)));
     }
 
+-- The next place is as it was.
+pub filled-ahead : {f : ℕ → ℕ} {list : List ℕ} {n i : ℕ} {now : List ℕ} → Filled f list n i now → i < n → getD now i 0 ≡ getD list i 0
+filled-ahead {f} {list} {n} {i} h l =
+    let r : i < length list = omega (arith, h .room) in
+    rw (h .content, drop-cons list i 0 r) (getD-at (upTo i f) (getD list i 0) (drop (suc i) list) 0 i (length-upTo i f))
+
 pub filled-all : {f : ℕ → ℕ} {list : List ℕ} {n i : ℕ} {now : List ℕ} → Filled f list n i now → n ≤ i → now ≡ filled n f list
 filled-all {f} {list} h l = h .content ∙ ap (λ k. filled k f list) (le-antisymm (h .turns) l)

@@ -26,3 +26,4 @@ refusal-below-32 Refusal.SharesOutTooHigh = omega arith
 refusal-below-32 Refusal.ListTooShort = omega arith
 refusal-below-32 Refusal.RateCountOutOfRange = omega arith
 refusal-below-32 Refusal.BufferTooShort = omega arith
+refusal-below-32 Refusal.PeriodsOutOfRange = omega arith

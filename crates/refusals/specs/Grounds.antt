@@ -29,6 +29,7 @@ refusalNumber Refusal.SharesOutTooHigh = 18
 refusalNumber Refusal.ListTooShort = 19
 refusalNumber Refusal.RateCountOutOfRange = 20
 refusalNumber Refusal.BufferTooShort = 21
+refusalNumber Refusal.PeriodsOutOfRange = 22
 
 pub record Ground : Type 0 where
   pub refusal : Refusal

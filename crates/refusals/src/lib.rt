@@ -30,6 +30,7 @@ pub enum Refusal {
     ListTooShort,
     RateCountOutOfRange,
     BufferTooShort,
+    PeriodsOutOfRange,
 }
 
 // What checks find.

@@ -28,5 +28,6 @@ pub fn refusal_number(refusal: Refusal) -> u64
         Refusal::ListTooShort => 19,
         Refusal::RateCountOutOfRange => 20,
         Refusal::BufferTooShort => 21,
+        Refusal::PeriodsOutOfRange => 22,
     }
 }

@@ -12,7 +12,7 @@ use lib.Count.{trailingZeros}
 use Rattle.book.specs.Fields.{along}
 use Rattle.book.specs.Tests.{someBelow, someIn}
 use Rattle.book.specs.BookGrounds.{bookTooShort, countOutOfRange, bookLengthWrong, headerInvalid, memberOutOfRange, feedOutOfRange, walk, occurrences, feedNotOnce, feedsMisplaced, feedNotFromLower, sharesOutTooHigh}
-use Rattle.balance.specs.Balance.{G, reported}
+use Rattle.balance.specs.Balance.{G, inMemberOrder, reported}
 use Rattle.balance.specs.Factors.{factorAnswer, factorList, answerNumber}
 use Rattle.text.specs.Words.{ascii, decimal, lineFeed}
 use Rattle.entry.specs.Entry.{exponentUpTo, entryOf}
@@ -189,5 +189,5 @@ marked =
     ∷ []
 
 pub every-marked-row-holds : allHold marked ≡ true
-unfolding marked allHold holds sameList lines decimal exponentUpTo entryOf someRateTooHigh along someBelow someIn bookTooShort countOutOfRange bookLengthWrong headerInvalid memberOutOfRange feedOutOfRange walk occurrences feedNotOnce feedsMisplaced feedNotFromLower sharesOutTooHigh reported nearest exposureOutOfRange whole readingUnusable concentrationTooHigh codeUnknown attenuationOutOfRange sumBelow level workingLevels figuresAt numberIs concentrationIs verdictIs levelIs odd ofBits trailingZeros
+unfolding marked allHold holds sameList lines decimal exponentUpTo entryOf someRateTooHigh along someBelow someIn bookTooShort countOutOfRange bookLengthWrong headerInvalid memberOutOfRange feedOutOfRange walk occurrences feedNotOnce feedsMisplaced feedNotFromLower sharesOutTooHigh inMemberOrder reported nearest exposureOutOfRange whole readingUnusable concentrationTooHigh codeUnknown attenuationOutOfRange sumBelow level workingLevels figuresAt numberIs concentrationIs verdictIs levelIs odd ofBits trailingZeros
 every-marked-row-holds = refl

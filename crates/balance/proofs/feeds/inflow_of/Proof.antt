@@ -1,12 +1,12 @@
--- `balance::fill::inflow_of` meets its contract. The loop goes along the feeds as the definition does, with the same cut,
+-- `balance::feeds::inflow_of` meets its contract. The loop goes along the feeds as the definition does, with the same cut,
 -- and no sum on the way is above the whole inflow.
 use Prim.Native.Nat.{_+_}
 use borrow.Author.Needs.{needs}
 use native.Mathlib.Omega.{arith}
 use mathlib.Core.Path.{ap}
 use Rattle.balance.proofs.AlongFeeds.{Summed, fed-place, summed-none, summed-place, summed-from, summed-fits, summed-more, summed-at-end, summed-at-cut}
-use Rattle.balance.proofs.fill.inflow_of.Statement.{statement}
-use Rattle.balance.proofs.fill.inflow_of.Tie as tie
+use Rattle.balance.proofs.feeds.inflow_of.Statement.{statement}
+use Rattle.balance.proofs.feeds.inflow_of.Tie as tie
 
 abbrev Inv-loop : tie.InvT-loop
 Inv-loop book i firsts shares froms nexts factors sum₀ j₀ left₀ sum j left = Summed book i firsts shares froms nexts factors sum j left

@@ -14,7 +14,7 @@ use Rattle.balance.specs.Chain.{chainOf}
 use Rattle.balance.specs.Balance.{reportedFactor}
 use Rattle.balance.proofs.AcceptedSound.{accepted-sound}
 use Rattle.balance.proofs.Quotients.{later-half-life}
-use Rattle.balance.proofs.FilledFactors.{fed, factor-made, parent-filled, factor-filled, filled-reported}
+use Rattle.balance.proofs.FilledFactors.{fed, factor-made, first-filled, factor-filled, filled-reported}
 use Rattle.balance.proofs.fill.fill.Statement.{statement}
 use Rattle.balance.proofs.fill.fill.Tie as tie
 
@@ -39,7 +39,7 @@ loop-holds c =
     let some = accepted-ranges book (asked .accepted) .members-count .from in (
       search needs,
       rw (written .write-factor .ensures)
-          (parent-filled (scaleOf book) (chainOf book) (ratesAt book (start .args .v)) (start .args .out .now) some (asked .enough)),
+          (first-filled (scaleOf book) (chainOf book) (ratesAt book (start .args .v)) (start .args .out .now) some (asked .enough)),
     )
 
 inflow-of-requires : tie.Need-inflow-of-requires Inv-loop μ-loop
