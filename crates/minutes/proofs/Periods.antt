@@ -1,0 +1,27 @@
+-- Periods one after the other: one factor for each member, none above the exact steady one at rates that no period goes below.
+use Prim.Native.Nat.{ℕ, zero, suc, _*_, _≤_, _<_}
+use native.Mathlib.Omega.{arith}
+use mathlib.Core.Path.{_≡_, ap}
+use mathlib.Core.List.{List}
+use lib.ListN.{length, getD, length-replicate}
+use Rattle.balance.specs.Chain.{Chain}
+use Rattle.balance.specs.Private.Sound.{Sound}
+use Rattle.balance.specs.Balance.{G}
+use Rattle.balance.proofs.Equations.{ExactFactors}
+use Rattle.minutes.specs.Minutes.{rateOf, minutesOf, afterPeriods}
+use Rattle.minutes.proofs.Repeated.{start-below, minutes-below, minutes-length}
+
+module _ (scale : ℕ) (chain : Chain) (rates : ℕ → ℕ → ℕ) (last : ℕ) (periods : List ℕ) where
+  pub periods-length : (n : ℕ) → length (afterPeriods scale chain rates last periods n) ≡ suc last
+  unfolding afterPeriods
+  periods-length zero = ap suc (length-replicate last 0)
+  periods-length (suc n) = minutes-length scale chain (rates (rateOf periods n)) last (minutesOf periods n) _ (periods-length n)
+
+  module _ (pos : 0 < scale) (sound : Sound scale chain) (l : last < chain .count) {rate : ℕ → ℕ} (i : ℕ) (within : i ≤ last) {P : ℕ} {x : ℕ → ℕ} (exact : ExactFactors scale chain rate i P x) where
+    pub periods-below :
+        (n : ℕ) → ((p : ℕ) → p < n → (k : ℕ) → rate k ≤ rates (rateOf periods p) k) →
+        (k : ℕ) → k ≤ i → P * getD (afterPeriods scale chain rates last periods n) k 0 ≤ G * x k
+    unfolding afterPeriods
+    periods-below zero rise k le = start-below last P x (exact .parent) k
+    periods-below (suc n) rise k le =
+        minutes-below pos sound last l (rise n (omega arith)) i within exact _ (periods-below n (λ p h. rise p (omega arith))) (minutesOf periods n) k le

@@ -1,0 +1,4 @@
+pub mod Minutes
+pub mod Opening
+pub mod Promises
+pub mod Private
