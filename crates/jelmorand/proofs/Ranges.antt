@@ -13,10 +13,14 @@ use mir.Val.{SFits, toZ, ofZ}
 use Rattle.refusals.specs.Grounds.{refusalNumber}
 use Rattle.refusals.specs.declared.Refusal.{Refusal}
 use Rattle.refusals.proofs.Numbers.{refusal-below-32}
+use Rattle.book.specs.Fields.{members}
+use Rattle.book.specs.BookGrounds.{Accepted}
 use Rattle.book.proofs.Ranges.{accepted-ranges}
 use Rattle.balance.specs.Factors.{factorAnswer}
 use Rattle.balance.specs.declared.FactorAnswer.{FactorAnswer}
 use Rattle.balance.proofs.Promised.{filled-call, filled-count}
+use Rattle.minutes.specs.Opening.{openingAnswer}
+use Rattle.minutes.proofs.Promised.{opening-accepted, opening-count}
 use Rattle.text.specs.Lent.{lengthWritten}
 use Rattle.report.specs.Report.{reportOf}
 use Rattle.report.proofs.ReportFits.{report-fits}
@@ -26,14 +30,22 @@ use Rattle.tables.proofs.Promised.{table-promises}
 use Rattle.jelmorand.specs.Answers.{refusedAs}
 use Rattle.jelmorand.proofs.Signed.{cast-fits, negated-fits, negated-is}
 
+few-members : (book : List ℕ) {n : ℕ} → Accepted book → members book ≡ n → n < 2 ^ 63
+few-members book accepted counted = omega (arith, accepted-ranges book accepted .members-count .to)
+
 pub filled-small :
     (v : ℕ) (book list : List ℕ) {answer : FactorAnswer} {n : ℕ}
     → answer ≡ factorAnswer v book (length list) → answer ≡ FactorAnswer.Filled n → n < 2 ^ 63
 filled-small v book list answered filled =
     let e = sym answered ∙ filled in
-    let few = accepted-ranges book (filled-call v book list e .accepted) .members-count .to in
-    let count = filled-count v book list e in
-    omega arith
+    few-members book (filled-call v book list e .accepted) (filled-count v book list e)
+
+pub opening-small :
+    (periods book list : List ℕ) {answer : FactorAnswer} {n : ℕ}
+    → answer ≡ openingAnswer periods book (length list) → answer ≡ FactorAnswer.Filled n → n < 2 ^ 63
+opening-small periods book list answered filled =
+    let e = sym answered ∙ filled in
+    few-members book (opening-accepted periods book list e) (opening-count periods book list e)
 
 -- A refusal's number can be cast and negated, and then is what every call answers for it.
 module _ (refusal : Refusal) {n : ℕ} (numbered : n ≡ refusalNumber refusal) where

@@ -7,6 +7,7 @@ use Rattle.refusals.specs.Grounds.{refusalNumber}
 use Rattle.refusals.specs.declared.Refusal.{Refusal}
 use Rattle.balance.specs.Factors.{factorAnswer}
 use Rattle.balance.specs.declared.FactorAnswer.{FactorAnswer}
+use Rattle.minutes.specs.Opening.{openingAnswer}
 use Rattle.text.specs.Lent.{lengthWritten}
 use Rattle.report.specs.Report.{reportOf}
 use Rattle.tables.specs.Answers.{tableAnswer}
@@ -37,3 +38,7 @@ tabledAs (TableAnswer.Refused refusal) = refusedAs refusal
 -- What the table call answers for a list of rates, a book and so many places.
 abbrev pub tableNumber : List ℕ → List ℕ → ℕ → ℤ
 tableNumber rates book room = tabledAs (tableAnswer rates book room)
+
+-- What the call for periods of airing answers, as the factor call does.
+abbrev pub openingNumber : List ℕ → List ℕ → ℕ → ℤ
+openingNumber periods book room = numberOf (openingAnswer periods book room)

@@ -1,6 +1,7 @@
 // The calls that a program in C, Rust or Python makes. Each takes plain numbers and lists and answers one signed number: the answer
 // itself where it is not negative, and minus the number of the refusal otherwise.
 use balance::FactorAnswer;
+use minutes::factors_after;
 use refusals::refusal_number;
 use report::report_job;
 use tables::TableAnswer;
@@ -8,10 +9,11 @@ use tables::tabulate;
 ghost use mathlib.Core.Path.{_≡_};
 ghost use lib.ListN.{length};
 ghost use Rattle.balance.specs.Factors.{factorList};
+ghost use Rattle.minutes.specs.Opening.{openingList};
 ghost use Rattle.report.specs.Report.{reportOf};
 ghost use Rattle.text.specs.Lent.{bytesWritten};
 ghost use Rattle.tables.specs.Answers.{tableBuffer};
-ghost use Rattle.jelmorand.specs.Answers.{factorsNumber, reportNumber, tableNumber};
+ghost use Rattle.jelmorand.specs.Answers.{factorsNumber, reportNumber, tableNumber, openingNumber};
 
 // The factors of every member at rate `v`, into the first places of `out`; a refusal leaves `out` as it was.
 #[no_mangle]
@@ -45,5 +47,19 @@ pub extern "C" fn jelmorand_table(rates: &[u32], book: &[u8], out: &mut [u8]) ->
     match answer {
         TableAnswer::Written(length) => length as i64,
         TableAnswer::Refused(refusal) => -(refusal_number(refusal) as i64),
+    }
+}
+
+// The factors of every member after periods of airing, each a rate and so many minutes, into the first places of `out`; a refusal leaves
+// `out` as it was.
+#[no_mangle]
+pub extern "C" fn jelmorand_factors_after(periods: &[u32], book: &[u8], out: &mut [u64]) -> i64
+    ensures answered { λ r. ⌜ r ≡ openingNumber (now (periods .entry)) (now (book .entry)) (length (now (out .entry))) ⌝ }
+    ensures written { λ _. ⌜ now (out .exit) ≡ openingList (now (periods .entry)) (now (book .entry)) (now (out .entry)) ⌝ }
+{
+    let answer = factors_after(periods, book, out);
+    match answer {
+        FactorAnswer::Filled(count) => count as i64,
+        FactorAnswer::Refused(refusal) => -(refusal_number(refusal) as i64),
     }
 }
