@@ -10,7 +10,7 @@ use Rattle.balance.specs.Balance.{G, K}
 use Rattle.balance.proofs.Inflow.{inflowOf, inflow-order}
 use Rattle.balance.proofs.Equations.{ExactFactors}
 use Rattle.balance.proofs.AlongChain.{along-chain}
-use Rattle.minutes.specs.Minutes.{onceAMinute, newFactor}
+use Rattle.minutes.specs.Minutes.{newFactor}
 use Rattle.minutes.proofs.Stepping.{step-rises, step-below}
 
 -- Of members 0 to i.
@@ -61,21 +61,4 @@ module _ {scale : ℕ} {chain : Chain} (pos : 0 < scale) (sound : Sound scale ch
           let T = chain .halfLife (suc k) in
           let removed = mul-le-mul-right T (rises (suc k)) in
           rw (aged .later k h)
-          (step-below
-          scale
-          (onceAMinute * T)
-          _
-          _
-          K
-          P
-          G
-          (x (suc k))
-          (old (suc k))
-          _
-          _
-          pos
-          (omega arith)
-          (omega arith)
-          (exact .later k h)
-          (begins (suc k) h)
-          inflows)
+          (step-below scale _ _ _ K P G (x (suc k)) (old (suc k)) _ _ pos (omega arith) (omega arith) (exact .later k h) (begins (suc k) h) inflows)

@@ -16,16 +16,16 @@ use Rattle.book.proofs.NoneMet.{none-below}
 use Rattle.balance.specs.Rates.{maxRate, ratesAt}
 use Rattle.balance.specs.Chain.{chainOf}
 use Rattle.minutes.specs.Minutes.{rateOf}
-use Rattle.minutes.specs.Opening.{periodCount, someRateTooHigh, periodsOutOfRange, openingGrounds, factorsAfter}
+use Rattle.minutes.specs.Opening.{periodCount, periodRateTooHigh, periodsOutOfRange, openingGrounds, factorsAfter}
 use Rattle.minutes.specs.Private.Holding.{OpeningPasses}
 use Rattle.minutes.proofs.Periods.{periods-length}
 use Rattle.minutes.proofs.Holding.{members-are}
 
 pub opening-passes : (periods book : List ℕ) (room : ℕ) → firstMet (openingGrounds periods book room) ≡ Passed → OpeningPasses periods book room
-unfolding someRateTooHigh
+unfolding periodRateTooHigh
 opening-passes periods book room passed =
     let short = ground ListTooShort (ltb room (members book)) ∷ [] in
-    let rated = not-met (someRateTooHigh periods) _ _ passed in
+    let rated = not-met (periodRateTooHigh periods) _ _ passed in
     let ranged = not-met (periodsOutOfRange periods) _ _ (rated .1) in
     let rest = both-pass (firstMet (bookGrounds book)) (firstMet short) (sym (first-of-both (bookGrounds book) short) ∙ ranged .1) in
     record {

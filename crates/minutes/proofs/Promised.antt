@@ -1,7 +1,7 @@
 -- What R-5 promises: of the definitions by the laws of the minutes, since an accepted book means a sound chain; of a call because place i of its
 -- list holds member i's factor.
 use Prim.Native.Nat.{ℕ, suc, _-_, _*_, _≤_, _<_}
-use native.Mathlib.Nat.{le-refl}
+use native.Mathlib.Nat.{le-refl, le-of-mul-le-mul-left, mul-le-mul-right}
 use native.Mathlib.Omega.{arith}
 use mathlib.Core.Path.{_≡_, refl, ap, subst, sym, _∙_}
 use mathlib.Core.List.{List, [], _∷_}
@@ -15,10 +15,13 @@ use Rattle.balance.specs.Rates.{ratesAt}
 use Rattle.balance.specs.Chain.{chainOf}
 use Rattle.balance.specs.Balance.{G}
 use Rattle.balance.specs.Exact.{numerators, denominator}
+use Rattle.balance.specs.Promises.{FactorPromise}
 use Rattle.balance.specs.declared.FactorAnswer.{FactorAnswer}
 use Rattle.balance.proofs.AcceptedSound.{accepted-sound}
 use Rattle.balance.proofs.CallAnswers.{filled-passed, place-holds}
 use Rattle.balance.proofs.Equations.{ExactFactors, exact-solves}
+use Rattle.balance.proofs.Numerators.{denominator-pos}
+use Rattle.balance.proofs.SoundFactors.{factor-promise}
 use Rattle.minutes.specs.Minutes.{start, minutes, rateOf, afterPeriods}
 use Rattle.minutes.specs.Opening.{periodCount, openingGrounds, factorsAfter, openingAnswer, openingList}
 use Rattle.minutes.specs.Promises.{NotAboveSteady, MinutePromise, OpeningPromise, OpeningPromises}
@@ -74,6 +77,19 @@ list-promise periods book list v n i lowest answered l =
     (sym (opening-place periods book list answered i l))
     (not-above periods book v i (opening-accepted periods book list answered) lowest (within periods book list answered i l))
 
+-- At rate 0 the exact steady factor is at most 1, and no rate is lower.
+none-above-parent :
+    (periods book list : List ℕ) (n i : ℕ) → openingAnswer periods book (length list) ≡ FactorAnswer.Filled n → i < n →
+    getD (openingList periods book list) i 0 ≤ G
+none-above-parent periods book list n i answered l =
+    let sound = accepted-sound book (opening-accepted periods book list answered) in
+    let whole : FactorPromise (scaleOf book) (chainOf book) (ratesAt book 0) i _ = factor-promise (lit< tt) sound i (within periods book list answered i l) in
+    let below = list-promise periods book list 0 n i (λ p h. omega arith) answered l in
+    let P = denominator (scaleOf book) (chainOf book) (ratesAt book 0) i in
+    le-of-mul-le-mul-left {k = P}
+    (omega (arith, mul-le-mul-right G (whole .exact-at-most-one)))
+    (denominator-pos (scaleOf book) (chainOf book) (ratesAt book 0) (lit< tt) i)
+
 -- What a call keeps that answers and leaves the list as defined.
 pub kept :
     (periods book list : List ℕ) {answer : FactorAnswer} {now : List ℕ} →
@@ -91,6 +107,7 @@ opening-promises =
     record {
       at-a-rate = at-a-rate;
       of-the-list = list-promise;
+      none-above-parent = none-above-parent;
       of-two-lists = λ v k book list other n m i answered other-answered l.
           let accepted = opening-accepted (v ∷ k ∷ []) book list answered in
           let there : i < m = omega (arith, opening-count (v ∷ k ∷ []) book list answered, opening-count (v ∷ suc k ∷ []) book other other-answered) in

@@ -27,8 +27,8 @@ abbrev pub periodCount : List ℕ → ℕ
 periodCount periods = length periods / 2
 
 -- 3. A rate exceeds 100,000, an unpaired last number included.
-unfoldable pub someRateTooHigh : List ℕ → Bool
-someRateTooHigh periods = someBelow ((length periods + 1) / 2) (λ p. ltb maxRate (rateOf periods p))
+unfoldable pub periodRateTooHigh : List ℕ → Bool
+periodRateTooHigh periods = someBelow ((length periods + 1) / 2) (λ p. ltb maxRate (rateOf periods p))
 
 -- 22. The list's length is odd or the count or length of periods is out of range.
 unfoldable pub periodsOutOfRange : List ℕ → Bool
@@ -39,7 +39,7 @@ periodsOutOfRange periods =
 
 abbrev pub openingGrounds : List ℕ → List ℕ → ℕ → List Ground
 openingGrounds periods book room =
-    ground RateTooHigh (someRateTooHigh periods)
+    ground RateTooHigh (periodRateTooHigh periods)
     ∷ ground PeriodsOutOfRange (periodsOutOfRange periods)
     ∷ bookGrounds book
     ++ (ground ListTooShort (ltb room (members book)) ∷ [])

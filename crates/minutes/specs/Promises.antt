@@ -37,6 +37,10 @@ pub record OpeningPromises : Type 0 where
   -- of what a call answers and leaves in the lent list
   pub of-the-list :
       (periods book list : List ℕ) → OpeningPromise periods book (openingAnswer periods book (length list)) (openingList periods book list)
+  -- no place that is filled holds more than the parent's
+  pub none-above-parent :
+      (periods book list : List ℕ) (n i : ℕ) → openingAnswer periods book (length list) ≡ FactorAnswer.Filled n → i < n →
+      getD (openingList periods book list) i 0 ≤ G
   -- of two calls at one rate, the second a minute longer: no place of its list holds less
   pub of-two-lists :
       (v k : ℕ) (book list other : List ℕ) (n m i : ℕ) →

@@ -12,7 +12,7 @@ ghost use mathlib.Core.Path.{_≡_};
 ghost use Rattle.refusals.specs.Grounds.{firstMet};
 ghost use Rattle.book.specs.Tests.{outside, someBelow};
 ghost use Rattle.minutes.specs.Minutes.{minutesOf};
-ghost use Rattle.minutes.specs.Opening.{maxMinutes, periodCount, someRateTooHigh, periodsOutOfRange, openingGrounds};
+ghost use Rattle.minutes.specs.Opening.{maxMinutes, periodCount, periodRateTooHigh, periodsOutOfRange, openingGrounds};
 
 // The first ground for refusing the call, if there is one.
 pub(crate) fn check_opening(periods: &[u32], book: &[u8], room: usize) -> Checked
@@ -32,7 +32,7 @@ pub(crate) fn check_opening(periods: &[u32], book: &[u8], room: usize) -> Checke
 
 // Every second number is a rate, an unpaired last one included.
 fn some_rate_too_high(periods: &[u32]) -> bool
-    ensures { λ r. ⌜ r ≡ someRateTooHigh (now (periods .entry)) ⌝ }
+    ensures { λ r. ⌜ r ≡ periodRateTooHigh (now (periods .entry)) ⌝ }
 {
     let count = periods.len() - periods.len() / 2;
     let mut found = false;

@@ -9,7 +9,7 @@ use borrow.Author.Needs.{needs}
 use Rattle.balance.specs.Rates.{maxRate}
 use Rattle.book.proofs.Tested.{Tested, none, more, all}
 use Rattle.minutes.specs.Minutes.{rateOf}
-use Rattle.minutes.specs.Opening.{someRateTooHigh}
+use Rattle.minutes.specs.Opening.{periodRateTooHigh}
 use Rattle.minutes.proofs.checks.some_rate_too_high.Statement.{statement}
 use Rattle.minutes.proofs.checks.some_rate_too_high.Tie as tie
 
@@ -26,7 +26,7 @@ loop-again : tie.Need-loop-again Inv-loop μ-loop
 loop-again c = more (c .before .before .loop .inv) (search needs) refl refl
 
 returns : tie.Need-returns Inv-loop μ-loop
-unfolding someRateTooHigh
+unfolding periodRateTooHigh
 returns c = all (c .before .loop .inv) (search needs)
 
 pub some-rate-too-high-spec : {M : Type 1} → statement M
