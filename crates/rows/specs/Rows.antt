@@ -1,5 +1,5 @@
 -- The rows of document 01 that are marked for the check, restated in quarter hours (document 02, R-1), and those of dose by the guide's
--- fractions (R-2), and of a table's entries (R-3): one list, one computation over the definitions.
+-- fractions (R-2), of a table's entries (R-3) and of minutes from a shut room (R-5): one list, one computation over the definitions.
 use Prim.Native.Nat.{ℕ, _*_, _/_}
 use Prim.Native.String.{String}
 use mathlib.Core.Bool.{Bool, true, false, _&&_}
@@ -14,6 +14,8 @@ use Rattle.book.specs.Tests.{someBelow, someIn}
 use Rattle.book.specs.BookGrounds.{bookTooShort, countOutOfRange, bookLengthWrong, headerInvalid, memberOutOfRange, feedOutOfRange, walk, occurrences, feedNotOnce, feedsMisplaced, feedNotFromLower, sharesOutTooHigh}
 use Rattle.balance.specs.Balance.{G, inMemberOrder, reported}
 use Rattle.balance.specs.Factors.{factorAnswer, factorList, answerNumber}
+use Rattle.minutes.specs.Minutes.{minute, minutes, afterPeriods}
+use Rattle.minutes.specs.Opening.{periodRateTooHigh, periodsOutOfRange, openingAnswer, openingList}
 use Rattle.text.specs.Words.{ascii, decimal, lineFeed}
 use Rattle.entry.specs.Entry.{exponentUpTo, entryOf}
 use Rattle.tables.specs.Answers.{someRateTooHigh, tableAnswer, tableBuffer, tableAnswerNumber}
@@ -103,6 +105,10 @@ pub data Row : Type 0 where
   entered : ℕ → String → Row
   -- the table call at these rates on a book answers the length of these lines, and leaves them in a buffer of that length
   tabled : List ℕ → List ℕ → List String → Row
+  -- after these periods the members of a book have these factors
+  aired : List ℕ → List ℕ → List ℕ → Row
+  -- these periods are refused with this number, whatever the room
+  notAired : List ℕ → ℕ → Row
 
 sameList : List ℕ → List ℕ → Bool
 sameList [] [] = true
@@ -147,6 +153,12 @@ holds (entered factor text) = sameList (entryOf factor) (ascii text)
 holds (tabled rates book text) =
     eqb (tableAnswerNumber (tableAnswer rates book (length (lines text)))) (length (lines text))
     && sameList (tableBuffer rates book (replicate (length (lines text)) 0)) (lines text)
+holds (aired periods book expected) =
+    eqb (answerNumber (openingAnswer periods book (length expected))) (length expected)
+    && sameList (openingList periods book (replicate (length expected) 7)) expected
+holds (notAired periods n) =
+    eqb (answerNumber (openingAnswer periods (oneDaughter 100000) 2)) n
+    && sameList (openingList periods (oneDaughter 100000) (7 ∷ 7 ∷ [])) (7 ∷ 7 ∷ [])
 
 pub allHold : List Row → Bool
 allHold [] = true
@@ -186,8 +198,17 @@ marked =
     ∷ entered G "1.000E+00"
     ∷ tabled (0 ∷ 100 ∷ 200 ∷ []) (oneDaughter 100000)
     ("0 1.000E+00 1.000E+00" ∷ "100 1.000E+00 5.000E-01" ∷ "200 1.000E+00 3.333E-01" ∷ [])
+    ∷ aired (0 ∷ 1 ∷ []) (oneDaughter 100000) (G ∷ G / 61 ∷ [])
+    ∷ aired (300 ∷ 2 ∷ []) (oneDaughter 100000) (G ∷ 33285996544 ∷ [])
+    ∷ aired (300 ∷ 1 ∷ 0 ∷ 1 ∷ []) (oneDaughter 100000) (G ∷ 34923012767 ∷ [])
+    ∷ aired (300 ∷ 1 ∷ []) diamond (G ∷ 8589934592 ∷ 8589934592 ∷ 268435456 ∷ [])
+    ∷ notAired [] 22
+    ∷ notAired (0 ∷ 0 ∷ []) 22
+    ∷ notAired (0 ∷ 1441 ∷ []) 22
+    ∷ notAired (0 ∷ 1 ∷ 100000 ∷ []) 22
+    ∷ notAired (0 ∷ 0 ∷ 100001 ∷ []) 3
     ∷ []
 
 pub every-marked-row-holds : allHold marked ≡ true
-unfolding marked allHold holds sameList lines decimal exponentUpTo entryOf someRateTooHigh along someBelow someIn bookTooShort countOutOfRange bookLengthWrong headerInvalid memberOutOfRange feedOutOfRange walk occurrences feedNotOnce feedsMisplaced feedNotFromLower sharesOutTooHigh inMemberOrder reported nearest exposureOutOfRange whole readingUnusable concentrationTooHigh codeUnknown attenuationOutOfRange sumBelow level workingLevels figuresAt numberIs concentrationIs verdictIs levelIs odd ofBits trailingZeros
+unfolding marked allHold holds sameList lines decimal exponentUpTo entryOf someRateTooHigh along someBelow someIn bookTooShort countOutOfRange bookLengthWrong headerInvalid memberOutOfRange feedOutOfRange walk occurrences feedNotOnce feedsMisplaced feedNotFromLower sharesOutTooHigh inMemberOrder reported minute minutes afterPeriods periodRateTooHigh periodsOutOfRange nearest exposureOutOfRange whole readingUnusable concentrationTooHigh codeUnknown attenuationOutOfRange sumBelow level workingLevels figuresAt numberIs concentrationIs verdictIs levelIs odd ofBits trailingZeros
 every-marked-row-holds = refl
