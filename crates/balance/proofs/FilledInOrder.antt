@@ -1,7 +1,7 @@
 -- A lent list whose first places are filled with the factors made so far holds all that the next one is made of:
 -- the feeds of a member come from lower members, whose factors stand in those places.
 use Prim.Native.Nat.{ℕ, zero, suc, _+_, _-_, _≤_, _<_}
-use mathlib.Core.Path.{_≡_, refl, sym, ap, _∙_}
+use mathlib.Core.Path.{_≡_, sym, ap, _∙_}
 use mathlib.Core.List.{List, _++_}
 use native.Mathlib.Omega.{arith}
 use lib.ListN.{length, getD, set, drop, length-set, List·getD-append}

@@ -26,7 +26,8 @@ module _ (scale : ℕ) (chain : Chain) (rate : ℕ → ℕ) where
   reported-parent = made-parent chain keptPart
 
   module _ (sound : Sound scale chain) (k : ℕ) (l : suc k < chain .count) where
-    pub inflow-reported : inflow (reported scale chain rate k) (chain .feeds (suc k)) ≡ inflowOf (reportedFactor scale chain rate) (chain .feeds (suc k))
+    pub inflow-reported :
+        inflow (reported scale chain rate k) (chain .feeds (suc k)) ≡ inflowOf (reportedFactor scale chain rate) (chain .feeds (suc k))
     unfolding reported
     inflow-reported = made-inflow chain keptPart sound k l
 

@@ -1,6 +1,6 @@
 -- A minute as equations over a number for each member, and two laws of it along the chain: what begins higher ends higher, and what begins
 -- below the exact steady factors stays below them, also where the minute is at higher rates than theirs.
-use Prim.Native.Nat.{ℕ, suc, _+_, _*_, _/_, _≤_, _<_}
+use Prim.Native.Nat.{ℕ, suc, _*_, _≤_, _<_}
 use native.Mathlib.Nat.{le-of-suc-le-suc, mul-le-mul-right}
 use native.Mathlib.Omega.{arith}
 use mathlib.Core.Path.{_≡_, ap}

@@ -1,4 +1,5 @@
--- What passing the call's checks says: each rate is within its limit, the book is accepted, and the list has room. Then there is one factor for each member.
+-- What passing the call's checks says: each rate is within its limit, the book is accepted, and the list has room.
+-- Then there is one factor for each member.
 use Prim.Native.Nat.{ℕ, _+_, _-_, _/_}
 use native.Mathlib.Omega.{arith}
 use mathlib.Core.Path.{_≡_, sym, _∙_}

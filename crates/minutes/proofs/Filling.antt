@@ -59,8 +59,9 @@ module _ {book old : List ℕ} (holds : Holds book old) (v : ℕ) where
       let aged = renewed-ages (scaleOf book) (chainOf book) (ratesAt book v) sound last here old in
       let below = aged-stays-below (lit< tt) sound last here (λ k. omega arith) exact aged (holds .below) in
       let part = renewing (scaleOf book) (chainOf book) (ratesAt book v) old in
+      let positive = denominator-pos (scaleOf book) (chainOf book) (ratesAt book 0) (lit< tt) last in
       rw (inflow-filled (chainOf book) part sound i l filling, made-inflow (chainOf book) part sound i l)
-      (inflow-at-most last new (lit< tt) (denominator-pos (scaleOf book) (chainOf book) (ratesAt book 0) (lit< tt) last) sound exact below i l (omega arith))
+      (inflow-at-most last new (lit< tt) positive sound exact below i l (omega arith))
 
   pub minute-fed : (i : ℕ) {now : List ℕ} → 1 ≤ i → i < members book → Filled new old (members book) i now → Fed book i now
   minute-fed i later l filling =

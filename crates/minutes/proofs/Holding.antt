@@ -60,13 +60,13 @@ pub record Reached (book list factors now : List ℕ) : Type 0 where
   pub size : length factors ≡ members book
   pub content : now ≡ factors ++ drop (members book) list
 
-pub reached-start : (book list rest : List ℕ) → Accepted book → list ≡ start (members book - 1) ++ rest → Reached book list (start (members book - 1)) list
+pub reached-start :
+    (book list rest : List ℕ) → Accepted book → list ≡ start (members book - 1) ++ rest → Reached book list (start (members book - 1)) list
 reached-start book list rest accepted begun =
     let exact = unaired book accepted in
     let size : length (start (members book - 1)) ≡ members book = ap suc (length-replicate (members book - 1) 0) ∙ members-are book accepted in
-    let below : BelowUnaired book (λ i. getD (start (members book - 1)) i 0) =
-    λ i le. start-below (members book - 1) _ (λ k. getD (numerators (scaleOf book) (chainOf book) (ratesAt book 0) (members book - 1)) k 0) (exact .parent) i
-    in
+    let x : ℕ → ℕ = λ k. getD (numerators (scaleOf book) (chainOf book) (ratesAt book 0) (members book - 1)) k 0 in
+    let below : BelowUnaired book (λ i. getD (start (members book - 1)) i 0) = λ i le. start-below (members book - 1) _ x (exact .parent) i in
     let holds : Holds book list = rw begun (front-holds book accepted (start (members book - 1)) rest size refl below) in
     let dropped : drop (members book) list ≡ rest = rw begun (drop-at (start (members book - 1)) rest (members book) size) in
     record {
@@ -96,7 +96,9 @@ module _ {book list factors now : List ℕ} (reached : Reached book list factors
   reached-rest = rw (reached .content) (drop-at factors (drop (members book) list) (members book) (reached .size))
 
   pub reached-length : length now ≡ length list
-  reached-length = rw (reached .content) (length-front list factors (members book) (reached .size ∙ sym (length-take-le (members book) list (reached .room))))
+  reached-length =
+      let same = reached .size ∙ sym (length-take-le (members book) list (reached .room)) in
+      rw (reached .content) (length-front list factors (members book) same)
 
   place : (i : ℕ) → i ≤ members book - 1 → getD factors i 0 ≡ getD now i 0
   place i le =
@@ -134,7 +136,8 @@ module _ {book list factors now : List ℕ} (reached : Reached book list factors
       }
 
   -- And of one minute more.
-  pub reached-minute : (v : ℕ) {after : List ℕ} → after ≡ minuteAt book v now ++ drop (members book) now → Reached book list (minuteAt book v factors) after
+  pub reached-minute :
+      (v : ℕ) {after : List ℕ} → after ≡ minuteAt book v now ++ drop (members book) now → Reached book list (minuteAt book v factors) after
   unfolding minutes
   reached-minute v passed =
       let size : length factors ≡ suc (members book - 1) = reached .size ∙ sym (members-are book accepted-here) in
@@ -156,21 +159,28 @@ module _ {book list : List ℕ} (v : ℕ) where
   unfolding minutes
   minutes-more k reached passed = rw (add-one k) (reached-minute reached v passed)
 
--- The loop over the periods, from a list that was begun with as many places as there are members.
-module _ (book entry : List ℕ) {list : List ℕ} {count : ℕ} (accepted : Accepted book) (room : members book ≤ length entry) (counted : count ≡ members book) (begun : list ≡ start (count - 1) ++ drop count entry) where
+-- A list that was begun, in as many places as there are members.
+pub record Begun (book entry list : List ℕ) (count : ℕ) : Type 0 where
+  pub accepted : Accepted book
+  pub room : members book ≤ length entry
+  pub counted : count ≡ members book
+  pub content : list ≡ start (count - 1) ++ drop count entry
+
+-- The loop over the periods.
+module _ {book entry list : List ℕ} {count : ℕ} (begun : Begun book entry list count) where
   begins : list ≡ start (members book - 1) ++ drop (members book) entry
-  begins = rw counted at begun
+  begins = rw (begun .counted) at (begun .content)
 
   begun-reached : Reached book list (start (members book - 1)) list
-  begun-reached = reached-start book list (drop (members book) entry) accepted begins
+  begun-reached = reached-start book list (drop (members book) entry) (begun .accepted) begins
 
   pub begun-rest : drop (members book) list ≡ drop (members book) entry
   begun-rest = rw begins (drop-at (start (members book - 1)) (drop (members book) entry) (members book) (begun-reached .size))
 
   pub begun-length : length list ≡ length entry
   begun-length =
-      rw begins
-      (length-front entry (start (members book - 1)) (members book) (begun-reached .size ∙ sym (length-take-le (members book) entry room)))
+      let same = begun-reached .size ∙ sym (length-take-le (members book) entry (begun .room)) in
+      rw begins (length-front entry (start (members book - 1)) (members book) same)
 
   pub periods-none : (periods : List ℕ) → Reached book list (periodsAt book periods 0) list
   unfolding afterPeriods

@@ -18,7 +18,8 @@ module _ (scale : ℕ) (chain : Chain) (rate : ℕ → ℕ) where
   abbrev pub renewed : List ℕ → ℕ → ℕ
   renewed old = made chain (renewing old)
 
-  pub renewed-ages : Sound scale chain → (last : ℕ) → last < chain .count → (old : List ℕ) → Aged scale chain rate last (λ k. getD old k 0) (renewed old)
+  pub renewed-ages :
+      Sound scale chain → (last : ℕ) → last < chain .count → (old : List ℕ) → Aged scale chain rate last (λ k. getD old k 0) (renewed old)
   renewed-ages sound last l old =
       record {
         parent = made-parent chain (renewing old);

@@ -17,11 +17,13 @@ module _ (scale : ℕ) (chain : Chain) (rates : ℕ → ℕ → ℕ) (last : ℕ
   periods-length zero = ap suc (length-replicate last 0)
   periods-length (suc n) = minutes-length scale chain (rates (rateOf periods n)) last (minutesOf periods n) _ (periods-length n)
 
-  module _ (pos : 0 < scale) (sound : Sound scale chain) (l : last < chain .count) {rate : ℕ → ℕ} (i : ℕ) (within : i ≤ last) {P : ℕ} {x : ℕ → ℕ} (exact : ExactFactors scale chain rate i P x) where
+  module _ (pos : 0 < scale) (sound : Sound scale chain) (l : last < chain .count) where
     pub periods-below :
+        {rate x : ℕ → ℕ} {P : ℕ} (i : ℕ) → i ≤ last → ExactFactors scale chain rate i P x →
         (n : ℕ) → ((p : ℕ) → p < n → (k : ℕ) → rate k ≤ rates (rateOf periods p) k) →
         (k : ℕ) → k ≤ i → P * getD (afterPeriods scale chain rates last periods n) k 0 ≤ G * x k
     unfolding afterPeriods
-    periods-below zero rise k le = start-below last P x (exact .parent) k
-    periods-below (suc n) rise k le =
-        minutes-below pos sound last l (rise n (omega arith)) i within exact _ (periods-below n (λ p h. rise p (omega arith))) (minutesOf periods n) k le
+    periods-below {rate} {x} {P} i within exact zero rise k le = start-below last P x (exact .parent) k
+    periods-below i within exact (suc n) rise k le =
+        let before = periods-below i within exact n (λ p h. rise p (omega arith)) in
+        minutes-below pos sound last l (rise n (omega arith)) i within exact _ before (minutesOf periods n) k le

@@ -1,9 +1,9 @@
 -- What R-5 promises: of the definitions by the laws of the minutes, since an accepted book means a sound chain; of a call because place i of its
 -- list holds member i's factor.
-use Prim.Native.Nat.{ℕ, suc, _-_, _*_, _≤_, _<_}
+use Prim.Native.Nat.{ℕ, suc, _-_, _≤_, _<_}
 use native.Mathlib.Nat.{le-refl, le-of-mul-le-mul-left, mul-le-mul-right}
 use native.Mathlib.Omega.{arith}
-use mathlib.Core.Path.{_≡_, refl, ap, subst, sym, _∙_}
+use mathlib.Core.Path.{_≡_, refl, subst, sym}
 use mathlib.Core.List.{List, [], _∷_}
 use lib.Dec.{lit<}
 use lib.ListN.{length, getD}
@@ -34,7 +34,8 @@ pub at-a-rate :
     (book : List ℕ) (v k i : ℕ) → Accepted book → i < members book →
     MinutePromise (scaleOf book) (chainOf book) (ratesAt book v) (members book - 1) k i
 at-a-rate book v k i accepted l =
-    minute-promise (lit< tt) (accepted-sound book accepted) (members book - 1) (last-counts book accepted) (ratesAt book v) k i (omega (arith, members-are book accepted))
+    let within : i ≤ members book - 1 = omega (arith, members-are book accepted) in
+    minute-promise (lit< tt) (accepted-sound book accepted) (members book - 1) (last-counts book accepted) (ratesAt book v) k i within
 
 not-above :
     (periods book : List ℕ) (v i : ℕ) → Accepted book → ((p : ℕ) → p < periodCount periods → v ≤ rateOf periods p) → i < members book →
@@ -45,11 +46,11 @@ not-above periods book v i accepted lowest l =
     let within : i ≤ last = omega (arith, members-are book accepted) in
     let P = denominator (scaleOf book) (chainOf book) (ratesAt book v) i in
     let x : ℕ → ℕ = λ j. getD (numerators (scaleOf book) (chainOf book) (ratesAt book v) i) j 0 in
-    let exact : ExactFactors (scaleOf book) (chainOf book) (ratesAt book v) i P x = exact-solves (scaleOf book) (chainOf book) (ratesAt book v) sound i l in
-    let below =
-    periods-below (scaleOf book) (chainOf book) (ratesAt book) last periods (lit< tt) sound (last-counts book accepted) i within exact (periodCount periods)
-    (λ p h k. lowest p h) i (le-refl i)
+    let exact : ExactFactors (scaleOf book) (chainOf book) (ratesAt book v) i P x =
+    exact-solves (scaleOf book) (chainOf book) (ratesAt book v) sound i l
     in
+    let all = periods-below (scaleOf book) (chainOf book) (ratesAt book) last periods (lit< tt) sound (last-counts book accepted) i within exact in
+    let below = all (periodCount periods) (λ p h k. lowest p h) i (le-refl i) in
     omega arith
 
 module _ (periods book list : List ℕ) {n : ℕ} (answered : openingAnswer periods book (length list) ≡ FactorAnswer.Filled n) where
@@ -70,7 +71,8 @@ module _ (periods book list : List ℕ) {n : ℕ} (answered : openingAnswer peri
   within : (i : ℕ) → i < n → i < members book
   within i l = let count = passed .1 in omega arith
 
-pub list-promise : (periods book list : List ℕ) → OpeningPromise periods book (openingAnswer periods book (length list)) (openingList periods book list)
+pub list-promise :
+    (periods book list : List ℕ) → OpeningPromise periods book (openingAnswer periods book (length list)) (openingList periods book list)
 list-promise periods book list v n i lowest answered l =
     subst
     (NotAboveSteady (scaleOf book) (chainOf book) (ratesAt book v) i)
@@ -83,7 +85,9 @@ none-above-parent :
     getD (openingList periods book list) i 0 ≤ G
 none-above-parent periods book list n i answered l =
     let sound = accepted-sound book (opening-accepted periods book list answered) in
-    let whole : FactorPromise (scaleOf book) (chainOf book) (ratesAt book 0) i _ = factor-promise (lit< tt) sound i (within periods book list answered i l) in
+    let whole : FactorPromise (scaleOf book) (chainOf book) (ratesAt book 0) i _ =
+    factor-promise (lit< tt) sound i (within periods book list answered i l)
+    in
     let below = list-promise periods book list 0 n i (λ p h. omega arith) answered l in
     let P = denominator (scaleOf book) (chainOf book) (ratesAt book 0) i in
     le-of-mul-le-mul-left {k = P}
@@ -110,7 +114,8 @@ opening-promises =
       none-above-parent = none-above-parent;
       of-two-lists = λ v k book list other n m i answered other-answered l.
           let accepted = opening-accepted (v ∷ k ∷ []) book list answered in
-          let there : i < m = omega (arith, opening-count (v ∷ k ∷ []) book list answered, opening-count (v ∷ suc k ∷ []) book other other-answered) in
+          let same = opening-count (v ∷ k ∷ []) book list answered in
+          let there : i < m = omega (arith, opening-count (v ∷ suc k ∷ []) book other other-answered) in
           rw (
             opening-place (v ∷ k ∷ []) book list answered i l,
             opening-place (v ∷ suc k ∷ []) book other other-answered i there,

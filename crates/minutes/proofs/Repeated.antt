@@ -29,10 +29,11 @@ start-below last P x parent (suc k) = rw (zeros last k) (omega arith)
 
 module _ {scale : ℕ} {chain : Chain} (pos : 0 < scale) (sound : Sound scale chain) (last : ℕ) (l : last < chain .count) where
   start-rises : (rate : ℕ → ℕ) (k : ℕ) → k ≤ last → getD (start last) k 0 ≤ getD (minute scale chain rate last (start last)) k 0
-  start-rises rate zero le = rw (minute-at scale chain rate last (start last) 0 le, made-parent chain (renewing scale chain rate (start last))) (le-refl G)
+  start-rises rate zero le =
+      rw (minute-at scale chain rate last (start last) 0 le, made-parent chain (renewing scale chain rate (start last))) (le-refl G)
   start-rises rate (suc k) le = rw (zeros last k) (omega arith)
 
-  pub minute-rises :
+  minute-rises :
       (rate : ℕ → ℕ) (old older : List ℕ) → ((k : ℕ) → k ≤ last → getD old k 0 ≤ getD older k 0) →
       (k : ℕ) → k ≤ last → getD (minute scale chain rate last old) k 0 ≤ getD (minute scale chain rate last older) k 0
   minute-rises rate old older begins k le =
@@ -47,21 +48,22 @@ module _ {scale : ℕ} {chain : Chain} (pos : 0 < scale) (sound : Sound scale ch
   minutes-rise rate (suc m) k le = minute-rises rate _ _ (minutes-rise rate m) k le
 
   -- From the exact steady factors at rates, of members 0 to i, and at rates that are no lower.
-  module _ {rate higher : ℕ → ℕ} (rises : (k : ℕ) → rate k ≤ higher k) (i : ℕ) (within : i ≤ last) {P : ℕ} {x : ℕ → ℕ} (exact : ExactFactors scale chain rate i P x) where
-    pub minute-below :
-        (old : List ℕ) → ((k : ℕ) → k ≤ i → P * getD old k 0 ≤ G * x k) →
-        (k : ℕ) → k ≤ i → P * getD (minute scale chain higher last old) k 0 ≤ G * x k
-    minute-below old begins k le =
-        let here : i < chain .count = omega arith in
-        rw (minute-at scale chain higher last old k (omega arith))
-        (aged-stays-below pos sound i here rises exact (renewed-ages scale chain higher sound i here old) begins k le)
+  module _ {rate higher : ℕ → ℕ} (rises : (k : ℕ) → rate k ≤ higher k) (i : ℕ) (within : i ≤ last) where
+    module _ {P : ℕ} {x : ℕ → ℕ} (exact : ExactFactors scale chain rate i P x) where
+      minute-below :
+          (old : List ℕ) → ((k : ℕ) → k ≤ i → P * getD old k 0 ≤ G * x k) →
+          (k : ℕ) → k ≤ i → P * getD (minute scale chain higher last old) k 0 ≤ G * x k
+      minute-below old begins k le =
+          let here : i < chain .count = omega arith in
+          rw (minute-at scale chain higher last old k (omega arith))
+          (aged-stays-below pos sound i here rises exact (renewed-ages scale chain higher sound i here old) begins k le)
 
-    pub minutes-below :
-        (factors : List ℕ) → ((k : ℕ) → k ≤ i → P * getD factors k 0 ≤ G * x k) →
-        (m k : ℕ) → k ≤ i → P * getD (minutes scale chain higher last m factors) k 0 ≤ G * x k
-    unfolding minutes
-    minutes-below factors begins zero = begins
-    minutes-below factors begins (suc m) = minute-below _ (minutes-below factors begins m)
+      pub minutes-below :
+          (factors : List ℕ) → ((k : ℕ) → k ≤ i → P * getD factors k 0 ≤ G * x k) →
+          (m k : ℕ) → k ≤ i → P * getD (minutes scale chain higher last m factors) k 0 ≤ G * x k
+      unfolding minutes
+      minutes-below factors begins zero = begins
+      minutes-below factors begins (suc m) = minute-below _ (minutes-below factors begins m)
 
   pub minute-promise : (rate : ℕ → ℕ) (k i : ℕ) → i ≤ last → MinutePromise scale chain rate last k i
   minute-promise rate k i within =

@@ -1,6 +1,6 @@
 -- The balance minute by minute (document 02, R-5), over the share's scale and a rate for each member.
 use Prim.Native.Nat.{ℕ, zero, suc, _+_, _*_, _/_}
-use mathlib.Core.List.{List, [], _∷_}
+use mathlib.Core.List.{List, _∷_}
 use lib.ListN.{getD, replicate}
 use Rattle.balance.specs.Chain.{Chain}
 use Rattle.balance.specs.Balance.{G, K, inMemberOrder}

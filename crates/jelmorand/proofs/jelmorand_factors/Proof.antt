@@ -1,4 +1,5 @@
--- `jelmorand::jelmorand_factors` meets its contract: it answers the number of the call's answer, in which no more factors are filled in than a book has members.
+-- `jelmorand::jelmorand_factors` meets its contract: it answers the number of the call's answer,
+-- in which no more factors are filled in than a book has members.
 use mathlib.Core.Path.{ap, _∙_}
 use mir.Syntax.{w64}
 use mir.ValLaws.{toZ-ofZ}
@@ -17,7 +18,8 @@ number-of-requires c κs =
 returns : tie.Need-returns
 returns c =
     let called = c .before .before .before in
-    (toZ-ofZ w64 _ (record { sfits = c .number-of .ok }) ∙ c .number-of .ensures ∙ ap numberOf (called .factors .ensures .0), called .factors .ensures .1 .0)
+    let handed-on = toZ-ofZ w64 _ (record { sfits = c .number-of .ok }) in
+    (handed-on ∙ c .number-of .ensures ∙ ap numberOf (called .factors .ensures .0), called .factors .ensures .1 .0)
 
 pub jelmorand-factors-spec : {M : Type 1} → statement M
 jelmorand-factors-spec = tie.close (tie.spec (λ c κs. search needs) number-of-requires (λ c. search needs) returns)

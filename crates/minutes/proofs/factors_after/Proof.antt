@@ -49,4 +49,5 @@ returns-2 c =
 
 pub factors-after-spec : {M : Type 1} → statement M
 factors-after-spec =
-    tie.close (tie.spec (search needs) (search needs) (search needs) pass-periods-requires (search needs) (search needs) returns (search needs) returns-2)
+    tie.close (tie.spec (search needs) (search needs) (search needs) pass-periods-requires (search needs) (search needs) returns
+    (search needs) returns-2)

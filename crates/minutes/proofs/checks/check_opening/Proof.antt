@@ -1,6 +1,6 @@
 -- `minutes::checks::check_opening` meets its contract. The checks are chosen from in the order of the list: the rates, the periods, the book's, the
 -- list's length.
-use mathlib.Core.Path.{refl, ap, sym, _∙_}
+use mathlib.Core.Path.{refl, ap}
 use mathlib.Core.List.{[], _∷_}
 use lib.Dec.{ltb}
 use borrow.Author.Needs.{needs}

@@ -1,7 +1,6 @@
 -- `minutes::checks::some_length_out_of_range` meets its contract: after p turns it has tested the lengths of the first p periods.
 use Prim.Native.Nat.{_-_}
 use mathlib.Core.Path.{refl}
-use lib.ListN.{length}
 use borrow.Author.Needs.{needs}
 use Rattle.book.specs.Tests.{outside}
 use Rattle.book.proofs.Tested.{Tested, none, more, all}
@@ -27,4 +26,5 @@ returns c = all (c .before .loop .inv) (search needs)
 
 pub some-length-out-of-range-spec : {M : Type 1} → statement M
 some-length-out-of-range-spec =
-    tie.close (tie.spec Inv-loop μ-loop loop-holds (search needs) (search needs) (search needs) (search needs) (λ c κs. search needs) (search needs) (search needs) loop-again returns)
+    tie.close (tie.spec Inv-loop μ-loop loop-holds (search needs) (search needs) (search needs) (search needs) (λ c κs. search needs)
+    (search needs) (search needs) loop-again returns)

@@ -31,4 +31,5 @@ returns c = all (c .before .loop .inv) (search needs)
 
 pub some-rate-too-high-spec : {M : Type 1} → statement M
 some-rate-too-high-spec =
-    tie.close (tie.spec Inv-loop μ-loop (search needs) loop-holds (search needs) (search needs) (search needs) (search needs) (search needs) loop-again returns)
+    tie.close (tie.spec Inv-loop μ-loop (search needs) loop-holds (search needs) (search needs) (search needs) (search needs) (search needs)
+    loop-again returns)

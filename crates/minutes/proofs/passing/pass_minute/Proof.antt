@@ -4,7 +4,6 @@ use Prim.Native.Nat.{_-_, _≤_, _<_}
 use borrow.Author.Needs.{needs}
 use native.Mathlib.Omega.{arith}
 use mathlib.Core.Path.{refl, _∙_}
-use lib.ListN.{length-set}
 use Rattle.book.specs.Fields.{members, scaleOf}
 use Rattle.book.proofs.Filled.{Filled, filled-all}
 use Rattle.book.proofs.Ranges.{accepted-ranges}

@@ -10,7 +10,7 @@ use Rattle.book.proofs.Ranges.{accepted-ranges}
 use Rattle.book.proofs.TableFields.{table-held}
 use Rattle.minutes.specs.Opening.{periodCount}
 use Rattle.minutes.specs.Private.Holding.{periodsAt}
-use Rattle.minutes.proofs.Holding.{Reached, reached-length, begun-rest, begun-length, periods-none, periods-more}
+use Rattle.minutes.proofs.Holding.{Reached, reached-length, Begun, begun-rest, begun-length, periods-none, periods-more}
 use Rattle.minutes.proofs.passing.pass_periods.Statement.{statement}
 use Rattle.minutes.proofs.passing.pass_periods.Tie as tie
 
@@ -26,12 +26,25 @@ begin-requires c κs =
     let some = accepted-ranges _ (start .pre .accepted) .members-count .from in
     (omega (arith, c .member-count .ensures .0), omega (arith, c .member-count .ensures .0, start .pre .enough))
 
+-- What the loop begins with.
+begun-list :
+    (c : tie.After-begin Inv-loop μ-loop) →
+    let start = c .before .before .before .before .before .before .before in
+    Begun (start .args .book .now) (start .args .out .now) (c .begin .last .0) (c .before .member-count .result)
+begun-list c =
+    let start = c .before .before .before .before .before .before .before in
+    record {
+      accepted = start .pre .accepted;
+      room = start .pre .enough;
+      counted = c .before .member-count .ensures .0;
+      content = c .begin .ensures;
+    }
+
 loop-holds : tie.Need-loop-holds Inv-loop μ-loop
 loop-holds c =
     let begun = c .before .before in
-    let counted = begun .before in
-    let start = counted .before .before .before .before .before .before in
-    (search needs, periods-none (start .args .book .now) (start .args .out .now) (start .pre .accepted) (start .pre .enough) (counted .member-count .ensures .0) (begun .begin .ensures) (start .args .periods .now))
+    let start = begun .before .before .before .before .before .before .before in
+    (search needs, periods-none (begun-list begun) (start .args .periods .now))
 
 shared-slice-read-pass-minutes : tie.Need-shared-slice-read-pass-minutes Inv-loop μ-loop
 shared-slice-read-pass-minutes c = omega (arith, c .before .loop-test .taken)
@@ -58,25 +71,19 @@ loop-again c =
 
 same-length : tie.Need-same-length Inv-loop μ-loop
 same-length c =
-    let begun = c .before .before .before .before in
-    let counted = begun .before in
-    let start = counted .before .before .before .before .before .before in
-    reached-length (c .before .loop .inv .1)
-    ∙ begun-length (start .args .book .now) (start .args .out .now) (start .pre .accepted) (start .pre .enough) (counted .member-count .ensures .0) (begun .begin .ensures)
+    reached-length (c .before .loop .inv .1) ∙ begun-length (begun-list (c .before .before .before .before))
 
 returns : tie.Need-returns Inv-loop μ-loop
 returns c =
     let loop = c .before .loop in
     let begun = c .before .before .before .before in
-    let counted = begun .before in
-    let start = counted .before .before .before .before .before .before in
+    let start = begun .before .before .before .before .before .before .before in
     let book = start .args .book .now in
     let periods = start .args .periods .now in
     let all : loop .p ≡ periodCount periods = omega (arith, loop .inv .0, c .loop-test .left) in
     loop .inv .1 .content
     ∙ ap (λ p. periodsAt book periods p ++ drop (members book) (begun .begin .last .0)) all
-    ∙ ap (λ rest. periodsAt book periods (periodCount periods) ++ rest)
-    (begun-rest book (start .args .out .now) (start .pre .accepted) (start .pre .enough) (counted .member-count .ensures .0) (begun .begin .ensures))
+    ∙ ap (λ rest. periodsAt book periods (periodCount periods) ++ rest) (begun-rest (begun-list begun))
 
 pub pass-periods-spec : {M : Type 1} → statement M
 pass-periods-spec =
