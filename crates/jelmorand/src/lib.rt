@@ -13,8 +13,7 @@ ghost use Rattle.minutes.specs.Opening.{openingList};
 ghost use Rattle.report.specs.Report.{reportOf};
 ghost use Rattle.text.specs.Lent.{bytesWritten};
 ghost use Rattle.tables.specs.Answers.{tableBuffer};
-ghost use Rattle.jelmorand.specs.Answers.{numberOf, factorsNumber, reportNumber, tableNumber, openingNumber};
-ghost use Rattle.jelmorand.specs.Private.Small.{FewFilled};
+ghost use Rattle.jelmorand.specs.Answers.{factorsNumber, reportNumber, tableNumber, openingNumber};
 
 // The factors of every member at rate `v`, into the first places of `out`; a refusal leaves `out` as it was.
 #[no_mangle]
@@ -22,7 +21,11 @@ pub extern "C" fn jelmorand_factors(v: u32, book: &[u8], out: &mut [u64]) -> i64
     ensures answered { λ r. ⌜ r ≡ factorsNumber v (now (book .entry)) (length (now (out .entry))) ⌝ }
     ensures written { λ _. ⌜ now (out .exit) ≡ factorList v (now (book .entry)) (now (out .entry)) ⌝ }
 {
-    number_of(balance::factors(v, book, out))
+    let answer = balance::factors(v, book, out);
+    match answer {
+        FactorAnswer::Filled(count) => count as i64,
+        FactorAnswer::Refused(refusal) => -(refusal_number(refusal) as i64),
+    }
 }
 
 // The report of a job, to the start of `out`, and its length; where there is no room for all of it 0, with `out` as it was.
@@ -54,16 +57,9 @@ pub extern "C" fn jelmorand_factors_after(periods: &[u32], book: &[u8], out: &mu
     ensures answered { λ r. ⌜ r ≡ openingNumber (now (periods .entry)) (now (book .entry)) (length (now (out .entry))) ⌝ }
     ensures written { λ _. ⌜ now (out .exit) ≡ openingList (now (periods .entry)) (now (book .entry)) (now (out .entry)) ⌝ }
 {
-    number_of(factors_after(periods, book, out))
-}
-
-// The number of an answer in which few factors are filled in, or of a refusal.
-fn number_of(answer: FactorAnswer) -> i64
-    requires { ⌜ FewFilled answer ⌝ }
-    ensures { λ r. ⌜ r ≡ numberOf answer ⌝ }
-{
+    let answer = factors_after(periods, book, out);
     match answer {
-        FactorAnswer::Filled(count) => count as i64,
-        FactorAnswer::Refused(refusal) => -(refusal_number(refusal) as i64),
+        FactorAnswer::Filled(filled) => filled as i64,
+        FactorAnswer::Refused(ground) => -(refusal_number(ground) as i64),
     }
 }
