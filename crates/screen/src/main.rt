@@ -28,7 +28,7 @@ fn screen_input() {
 
 fn screen_file() {
     let mut input = [0u8; ENOUGH];
-    let job = files::read_argument(1, b"screen: the file's name", &mut input);
+    let job = arguments::read_file(1, b"screen: the file's name", &mut input);
     if job.read {
         let n = job.length;
         write_report(&input[..n]);

@@ -1,10 +1,8 @@
 // Writes the table of the chain book in a file, at the rates that follow its name, or at those of source 000's radon table where none do.
-mod rates;
-
+use arguments::read_numbers;
 use book::LONGEST_BOOK;
 use libc::STDERR_FILENO;
 use libc::STDOUT_FILENO;
-use rates::read_rates;
 use tables::SOURCE_RATES;
 use tables::TABLE_ROOM;
 use tables::TableAnswer;
@@ -16,6 +14,9 @@ const ENOUGH: usize = LONGEST_BOOK + 1;
 // More than a table has, so that it is the library that refuses a list that is too long.
 const MOST_RATES: usize = 1000;
 
+// Where the rates begin among the arguments, after the program's name and the book's.
+const FIRST_RATE: usize = 2;
+
 fn main() {
     let words = os::arg_count();
     if words < 2 {
@@ -23,7 +24,7 @@ fn main() {
         return;
     }
     let mut input = [0u8; ENOUGH];
-    let book = files::read_argument(1, b"table: the file's name", &mut input);
+    let book = arguments::read_file(1, b"table: the file's name", &mut input);
     if !book.read {
         return;
     }
@@ -46,7 +47,12 @@ fn write_given(count: usize, book: &[u8]) {
 }
 
 fn write_read(rates: &mut [u32], book: &[u8]) {
-    if read_rates(rates) {
+    if read_numbers(
+        FIRST_RATE,
+        b"table",
+        b"a rate is whole hundredths per hour, so 18 for 0.18",
+        rates,
+    ) {
         write_table(rates, book);
     }
 }

@@ -14,7 +14,7 @@ const UNREAD: Contents = Contents {
 
 // Reads the file that argument `which` names to the start of `into`, as much of it as there is room for. Where that fails a line on
 // standard error says why, after the file's name, or after `unnamed` where that itself cannot be had.
-pub fn read_argument(which: usize, unnamed: &[u8], into: &mut [u8]) -> Contents
+pub fn read_file(which: usize, unnamed: &[u8], into: &mut [u8]) -> Contents
     ensures { λ r. ⌜ Counts (r .length) (now (into .exit)) ⌝ }
 {
     let mut path = io::buffer();
