@@ -1,6 +1,7 @@
 #!/usr/bin/env python3
 """Each example's text turns into its bytes and back, and its stored output is what the reference says of it: the report of its job and,
-of the three gases, the table of its book at the rates of source 000's radon table.
+of the three gases, the table of its book at the rates of source 000's radon table. The README shows what the reference says of a room
+that opens at eight.
 
 Where the programs are built, they are run too: on each example by its name and from standard input, and on what they cannot read.
 """
@@ -16,6 +17,7 @@ REFERENCE = SOURCES / "reference.py"
 PROGRAMS = HERE.parent / "target" / "bin"
 SCREEN = PROGRAMS / "screen"
 TABLE = PROGRAMS / "table"
+OPENING = PROGRAMS / "opening"
 GASES = ("radon", "thoron", "actinon")
 
 sys.path.insert(0, str(SOURCES))
@@ -110,6 +112,50 @@ def check_tables():
     assert tabled() == (b"", "usage: table BOOKFILE [RATE ...]\n")
 
 
+def opened(*words):
+    return output(OPENING, *words)
+
+
+def shown(text):
+    """Whether the README shows a text, indented."""
+    readme = (HERE.parent / "README.md").read_text(encoding="utf-8")
+    return "\n\n" + "".join(f"    {line}\n" for line in text.splitlines()) + "\n" in readme
+
+
+def check_readme():
+    """The two outputs of `opening` in the README are the reference's."""
+    radon = (HERE / "radon.book").read_bytes()
+    assert shown(reference.opening_lines([0, 480, 400, 60], radon))
+    assert shown(reference.opening_every(400, 60, 15, reference.read_book(radon)))
+
+
+def check_opening():
+    """Periods and lines every so often, of each gas; and what is refused, or is no list of periods."""
+    for gas in GASES:
+        path, data = HERE / f"{gas}.book", (HERE / f"{gas}.book").read_bytes()
+        for numbers in ([0, 1], [18, 1_440], [0, 480, 400, 60], [100_000, 7] * 32, [400, 0], [0, 1_441], [0, 1] * 33, [0, 5, 7], [0, 5, 100_001]):
+            said = reference.opening_lines(numbers, data).encode()
+            assert opened(path, *numbers) == (said, ""), f"{gas}, {numbers}: is the program the newest? (rt check opening)"
+        book = reference.read_book(data)
+        for v, minutes, every in ((0, 480, 60), (400, 60, 15), (18, 9, 1), (18, 9, 9), (18, 9, 4), (18, 9, 10), (100_000, 1_440, 300)):
+            said = reference.opening_every(v, minutes, every, book).encode()
+            assert opened(path, v, minutes, "every", every) == (said, ""), (gas, v, minutes, every)
+    radon = HERE / "radon.book"
+    assert opened(radon, 100_001, 5, "every", 1) == (b"refused 3\n", "")
+    assert opened(radon, 0, 1_441, "every", 1) == opened(radon, 0, 2**32 + 1) == (b"refused 22\n", "")
+    assert opened(radon, 0, 5, "every", 0) == (b"", "opening: every 0: N is 1 or more\n")
+    assert opened(radon, 0, 5, "every", "x") == (b"", "opening: x: N is whole minutes, 1 or more\n")
+    said = "opening: 0.18: a rate is whole hundredths per hour, so 18 for 0.18, and minutes are whole\n"
+    assert opened(radon, "0.18", 5) == (b"", said)
+    assert opened(radon, *[1] * 1_001) == (b"", "opening: more than 1,000 numbers\n")
+    assert opened(HERE / "radon.txt", 0, 5)[0].startswith(b"refused ")
+    none = HERE / "none.book"
+    assert opened(none, 0, 5) == (b"", f"{none}: No such file or directory\n")
+    usage = "usage: opening BOOKFILE RATE MINUTES [RATE MINUTES ...], or opening BOOKFILE RATE MINUTES every N\n"
+    for words in ((), (radon,), (radon, 0), (radon, 0, 5, "every"), (radon, 0, 5, "every", 1, 1)):
+        assert opened(*words) == (b"", usage), words
+
+
 def main():
     texts = sorted(HERE.glob("*.txt"))
     assert len(texts) == 4
@@ -117,7 +163,13 @@ def main():
         check(text)
     for gas in GASES:
         check_table(HERE / f"{gas}.txt")
+    check_readme()
     print(f"{len(texts)} examples agree, and {len(GASES)} tables")
+    if OPENING.exists():
+        check_opening()
+        print("opening agrees, at the end of periods and every so many minutes")
+    else:
+        print("opening is not built here, so it was not run (rt check opening builds it)")
     if TABLE.exists():
         check_tables()
         print("table agrees, with the source's rates and with others")

@@ -435,7 +435,7 @@ def test_notes():
 def test_documents():
     """The README shows the table of the grounds, the manual says every word, and its example can be encoded."""
     assert grounds.table() in (HERE.parent / "README.md").read_text(encoding="utf-8")
-    assert list(grounds.GROUNDS) == list(range(1, 22))
+    assert list(grounds.GROUNDS) == list(range(1, 23))
     manual = (HERE / "MANUAL.md").read_text(encoding="ascii")
     example = manual[manual.index("    # A home") : manual.index("One line for each")]
     assert foreseen(example) == []

@@ -218,10 +218,10 @@ def test_closed_output():
 def test_explain():
     status, out, _ = run("explain", 8)
     assert status == 0 and out.startswith("8. ") and "4,000,000,000 mBq/m3" in out
-    assert run("explain")[1].count("Where to look") == 21
-    for word in ("0", "22", "x", "08", "9" * 5_000):
+    assert run("explain")[1].count("Where to look") == 22
+    for word in ("0", "23", "x", "08", "9" * 5_000):
         status, _, said = run("explain", word)
-        assert status == 1 and "the grounds are 1 to 21" in said
+        assert status == 1 and "the grounds are 1 to 22" in said
 
 
 def test_help():

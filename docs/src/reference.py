@@ -1,7 +1,8 @@
-"""Documents 01 and 02 (R-1 to R-3) in exact whole numbers and fractions: the check from outside.
+"""Documents 01 and 02 (R-1 to R-5) in exact whole numbers and fractions: the check from outside.
 
 It follows document 01's order and words, with exposure in quarter hours as R-1 of document 02 has it,
-with R-2's shares of the years for dose and with R-3's tables, and has nothing in common with the proved program.
+with R-2's shares of the years for dose, R-3's tables and R-5's rooms minute by minute (R-4 changed no answer),
+and has nothing in common with the proved program.
 A job on standard input gives the text of `screen` on standard output;
 with --check it also asserts, on that job, what demand 3 promises.
 
@@ -348,6 +349,86 @@ def table_call(rates, book_bytes, room):
     return text
 
 
+# ---- Rooms that open at eight (R-5) --------------------------------------------------------------
+
+
+def shut_room(book):
+    """Before the first minute: member 0 has G, the others start at 0."""
+    return [G] + [0] * (book.n - 1)
+
+
+def minute_later(v, book, old):
+    """The factors one minute later at rate v, in member order; F is formed from this minute's factors, not the old ones."""
+    new = [G]
+    for i in range(1, book.n):
+        T = book.members[i].T
+        F = sum(feed.share * new[feed.from_] for feed in book.feeds_into[i]) // 100_000
+        new.append((6_000 * T * old[i] + K * F) // (K + (6_000 + v) * T))
+    return new
+
+
+def minutes_later(v, minutes, book, factors):
+    """The same minute after minute, at one rate."""
+    for _ in range(minutes):
+        factors = minute_later(v, book, factors)
+    return factors
+
+
+def opening_factors(periods, book):
+    """The factors at the end: each period begins with what the one before it has left."""
+    factors = shut_room(book)
+    for v, minutes in periods:
+        factors = minutes_later(v, minutes, book, factors)
+    return factors
+
+
+def in_turn(numbers):
+    """The periods: rate and minutes in turn. An unpaired last number begins no period."""
+    return list(zip(numbers[0::2], numbers[1::2]))
+
+
+def check_periods(numbers):
+    """Check 22: the list's length is odd, or the count or the length of periods is out of range."""
+    refuse_if(len(numbers) % 2 == 1, 22)
+    refuse_if(not 1 <= len(in_turn(numbers)) <= 32, 22)
+    refuse_if(any(not 1 <= minutes <= 1_440 for _, minutes in in_turn(numbers)), 22)
+
+
+def opening_call(numbers, book_bytes, room):
+    """The n numbers that fill the lent list's first places, or the number of the refusal: checks 3, 22, 9 to 19."""
+    try:
+        for rate in numbers[0::2]:  # every second number from the first, so an unpaired last one too
+            check_rate(rate)
+        check_periods(numbers)
+        book = read_book(book_bytes)
+        refuse_if(room < book.n, 19)
+    except Refused as refusal:
+        return refusal.number
+    return opening_factors(in_turn(numbers), book)
+
+
+def opening_lines(numbers, book_bytes):
+    """The text that `opening` writes for a list of periods; its own list has room for any book."""
+    answered = opening_call(numbers, book_bytes, 16)
+    if isinstance(answered, int):
+        return f"refused {answered}\n"
+    return "".join(f"factor {i} {grains}\n" for i, grains in enumerate(answered))
+
+
+def minute_line(minute, factors):
+    """A line in R-3's form, with the minute in place of the rate."""
+    return " ".join((str(minute), *map(entry, factors))) + "\n"
+
+
+def opening_every(v, minutes, every, book):
+    """At one rate, a line for each minute that is a multiple of `every`, from `every` to `minutes`."""
+    factors, text = shut_room(book), ""
+    for minute in range(every, minutes + 1, every):
+        factors = minutes_later(v, every, book, factors)
+        text += minute_line(minute, factors)
+    return text
+
+
 # ---- The program `screen` -----------------------------------------------------------------------
 
 
@@ -418,6 +499,27 @@ def check(job_bytes):
     check_factors(0, book)
     check_verdict(job, book, C)
     check_level(job, book)
+
+
+# ---- R-5's promise, asserted at one rate ---------------------------------------------------------
+
+
+def check_minutes(v, book, minutes):
+    """At one fixed rate no factor is lower than the minute before or higher than the exact steady one.
+
+    The answer is the minute after which nothing changes, so that all later ones are checked with it, or None if it
+    does not come within the minutes given."""
+    steady = [x * G for x in exact_factors(v, book)]
+    before = shut_room(book)
+    for minute in range(1, minutes + 1):
+        now = minute_later(v, book, before)
+        assert now[0] == G
+        assert all(old <= new for old, new in zip(before, now)), minute
+        assert all(new <= most for new, most in zip(now, steady)), minute
+        if now == before:
+            return minute - 1
+        before = now
+    return None
 
 
 def main():

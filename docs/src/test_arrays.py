@@ -1,11 +1,11 @@
-"""No list of factors but the lent one: every array in the source of the crates that the factor call reaches.
+"""No list of factors but the lent one: every array in the source of the crates that the two calls for factors reach.
 
     test_arrays.py
 
 Every place where these crates write an array type or an array literal must be on the list below. A factor takes 41 bits, so an
-array of narrower elements holds none; the one with wider elements is that of the half-lives, and the crate that works out the
-factors has it lent, as it has every other array: it owns none and writes to none. What the search would miss is tried too: spare
-lists, put into the source in several ways, must each be found. Prints the arrays that the factor call meets on its way, with
+array of narrower elements holds none; the one with wider elements is that of the half-lives, and the crates that work out the
+factors have it lent, as they have every other array: they own none and write to none. What the search would miss is tried too:
+spare lists, put into the source in several ways, must each be found. Prints the arrays that each call meets on its way, with
 their bytes.
 """
 
@@ -17,7 +17,7 @@ import sys
 from plain_help import answer_help
 
 CRATES = pathlib.Path(__file__).resolve().parents[2] / "crates"
-CALL = ("balance", "factors")
+CALLS = {"the factor call": ("balance", "factors"), "the call for periods": ("minutes", "factors_after")}
 FACTOR_BITS = 41
 WIDTHS = {"u8": 8, "u16": 16, "u32": 32, "u64": 64, "usize": 64, "i64": 64, "f64": 64, "bool": 8}
 
@@ -30,10 +30,13 @@ CHAIN = {
     "froms": ("u8", "MAX_FEEDS"),
     "nexts": ("u8", "MAX_FEEDS"),
 }
-LENT = {f"{name}: &'a [{element}; {size}]" for name, (element, size) in CHAIN.items() if name != "coefficients"}
+FEEDS = {f"{name}: &'a [{element}; {size}]" for name, (element, size) in CHAIN.items() if name not in ("half_lives", "coefficients")}
+LENT = FEEDS | {"half_lives: &'a [u64; MAX_MEMBERS]"}
 LISTED = {
+    "balance/src/feeds.rt": FEEDS,
     "balance/src/fill.rt": LENT,
     "balance/src/lib.rt": LENT,
+    "minutes/src/passing.rt": LENT,
     "book/src/table.rt": {f"pub {name}: [{element}; {size}]" for name, (element, size) in CHAIN.items()}
     | {f"{name}: [0; {size}]" for name, (_, size) in CHAIN.items()}
     | {f"list: &mut [{element}; {size}]" for element, size in CHAIN.values()},
@@ -87,19 +90,20 @@ def needed_by(crate):
 
 
 def sources():
-    """The bare text of each source file of the crates that the factor call stands on."""
-    files = (path for crate in needed_by(CALL[0]) for path in CRATES.joinpath(crate, "src").rglob("*.rt"))
+    """The bare text of each source file of the crates that the calls stand on."""
+    crates = set().union(*(needed_by(crate) for crate, _ in CALLS.values()))
+    files = (path for crate in crates for path in CRATES.joinpath(crate, "src").rglob("*.rt"))
     return {str(path.relative_to(CRATES)): bare(path.read_text(encoding="utf-8")) for path in sorted(files)}
 
 
-def reached(texts):
-    """The functions that the factor call reaches, by their crates and names. Where a name has several, all of them."""
+def reached(texts, call):
+    """The functions that a call reaches, by their crates and names. Where a name has several, all of them."""
     bodies, called = {}, {}
     for path, text in texts.items():
         for name, body in functions(text):
             bodies.setdefault((path.split("/")[0], name), []).append((path, body))
     crates = {crate for crate, _ in bodies}
-    waiting = [CALL]
+    waiting = [call]
     while waiting:
         crate, name = waiting.pop()
         if (crate, name) in called or (crate, name) not in bodies:
@@ -124,27 +128,29 @@ def count(texts, size):
     return math.prod(int(constants[name]) for name in size.split(" * "))
 
 
-def met(texts):
-    """The arrays that the functions on the way of the factor call own, and the bytes of each."""
-    bodies = [body for places in reached(texts).values() for _, body in places]
+def met(texts, call):
+    """The arrays that the functions on the way of a call own, and the bytes of each."""
+    bodies = [body for places in reached(texts, call).values() for _, body in places]
     sizes = {name: WIDTHS[element] // 8 * count(texts, size) for name, (element, size) in CHAIN.items()}
     owned = {name: size for name, size in sizes.items() if any(f"{name}: [0; " in body for body in bodies)}
     return owned | ({"counts of the walk": 256} if any("[0u8; 256]" in body for body in bodies) else {})
 
 
 def wide(texts):
-    """Arrays whose elements could hold a factor, but for the half-lives, and arrays that the balance owns or writes to."""
+    """Arrays whose elements could hold a factor, but for the half-lives, and arrays that a crate which works out factors owns or
+    writes to."""
     for path, text in texts.items():
         for array in arrays(text):
             element = re.search(r"\[(\w+);", array)
             if element and WIDTHS.get(element[1], 0) >= FACTOR_BITS and not re.match(r"(pub )?half_lives: |list: &mut ", array):
                 yield f"{path}: {array} has elements that hold a factor"
-            if path.startswith(CALL[0]) and "&'a [" not in array:
+            if path.split("/")[0] in (crate for crate, _ in CALLS.values()) and "&'a [" not in array:
                 yield f"{path}: {array} is not lent to be read"
 
 
 # Spare lists, each in a form of its own: (file, what is replaced, by what).
 FILL = "balance/src/fill.rt"
+PASSING = "minutes/src/passing.rt"
 PLANTED = [
     (FILL, "let mut i = 1;", "let mut spare = [0u64; 16]; let mut i = 1;"),
     (FILL, "let mut i = 1;", "let mut spare: [u64; 16] = zeros(); let mut i = 1;"),
@@ -153,6 +159,8 @@ PLANTED = [
     (FILL, "let mut i = 1;", "let mut i = 1; return [0u64;\n 16];"),
     (FILL, "out: &mut [u64],", "out: &mut [u64], spare: &mut [u64; 16],"),
     (FILL, "half_lives: &'a [u64", "half_lives: &'a mut [u64"),
+    (PASSING, "let mut i = 1;", "let before = [0u64; MAX_MEMBERS]; let mut i = 1;"),
+    (PASSING, "out: &mut [u64],", "out: &mut [u64], before: &'a [u64; MAX_MEMBERS],"),
     ("book/src/table.rt", "pub divisor: u16,", "pub divisor: u16, pub factors: [u64; MAX_MEMBERS],"),
     ("book/src/checks/walk.rt", "[0u8; 256]", "[0u64; 256]"),
     ("wide/src/division.rt", "pub fn product_quotient(", "pub fn spare() -> [u64; 16] { zeros() } pub fn product_quotient("),
@@ -171,8 +179,10 @@ def main():
             wrong.append(f"{path}: not seen: {new}")
     if wrong:
         sys.exit("\n".join(wrong))
-    print(f"arrays: the factor call reaches {len(reached(texts))} functions of {len(needed_by(CALL[0]))} crates, none with a list of factors")
-    print("arrays: theirs, in bytes: " + ", ".join(f"{name} {size}" for name, size in met(texts).items()))
+    for name, call in CALLS.items():
+        functions_of = f"{len(reached(texts, call))} functions of {len(needed_by(call[0]))} crates"
+        print(f"arrays: {name} reaches {functions_of}, none with a list of factors")
+        print("arrays: theirs, in bytes: " + ", ".join(f"{array} {size}" for array, size in met(texts, call).items()))
     print(f"arrays: {len(PLANTED)} planted lists were looked for")
 
 

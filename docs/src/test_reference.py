@@ -1,7 +1,8 @@
 """Every row of document 01, restated in quarter hours and with the dose of document 02 (R-1, R-2), and its worked output,
 against the reference; R-2's share over every accepted pair of years;
 that a job in whole hours, restated in quarters, keeps its verdict, its level and its refusal;
-and R-3's nine characters of a factor against a search through everything that can be printed.
+R-3's nine characters of a factor against a search through everything that can be printed;
+and R-5's minutes by hand, without rounding, until nothing changes any more, and over a change of rate.
 
     test_reference.py
 """
@@ -9,6 +10,7 @@ and R-3's nine characters of a factor against a search through everything that c
 import bisect
 import itertools
 import math
+import pathlib
 import re
 import struct
 
@@ -361,6 +363,169 @@ def test_entry_by_hand():
     for x, entry in ((0, "0.000E+00"), (1, "9.095E-13"), (2, "1.819E-12"), (G - 1, "1.000E+00"), (G, "1.000E+00"),
                      (G * 9_997 // 10_000, "9.997E-01"), (G * 99_996 // 100_000, "1.000E+00"), (G // 3, "3.333E-01")):
         assert ref.entry(x) == entry
+
+
+# ---- Rooms that open at eight (R-5) --------------------------------------------------------------
+
+EXAMPLES = pathlib.Path(__file__).resolve().parents[2] / "examples"
+GASES = ("radon", "thoron", "actinon")
+
+
+def example_book(gas):
+    return ref.read_book((EXAMPLES / f"{gas}.book").read_bytes())
+
+
+def random_book(rng, n):
+    return ref.read_book(make_cases.random_case(rng, n).data()[48:])
+
+
+def line_book(*half_lives):
+    """Each member fed wholly by the one before."""
+    members = [pack_member(1)] + [pack_member(T, first=k + 1) for k, T in enumerate(half_lives)]
+    return ref.read_book(pack_book(members, [pack_feed(100_000, k) for k in range(len(half_lives))]))
+
+
+def test_minutes_by_hand():
+    """One daughter with T', for which K is 100 T': a minute goes from x to (6,000 x + 100 G) / (6,100 + v)."""
+    assert ref.K == 100 * T1
+    book = one_feed_book()
+    for v in (0, 1, 18, 60, 100, 300, 6_700, 99_999, 100_000):
+        one = 100 * G // (6_100 + v)
+        two = (6_000 * one + 100 * G) // (6_100 + v)
+        three = (6_000 * two + 100 * G) // (6_100 + v)
+        for minutes, grains in ((1, one), (2, two), (3, three)):
+            assert ref.opening_call([v, minutes], book, 2) == [G, grains]
+        assert ref.opening_call([v, 1, v, 1, v, 1], book, 2) == [G, three]
+    assert ref.opening_call([0, 1], book, 2) == [G, 18_024_780_783]
+    # (60 x + G) / 64 at rate 300, (60 x + G) / 128 at 6,700; the second of two in a line has its F from the same minute.
+    assert ref.opening_call([300, 1, 6_700, 1], book, 2) == [G, 31 * 2**29]
+    assert ref.opening_call([6_700, 1, 300, 1], book, 2) == [G, 47 * 2**29]
+    assert ref.opening_factors([(300, 1)], line_book(T1, T1)) == [G, 2**34, 2**28]
+    assert ref.opening_factors([(300, 2)], line_book(T1, T1)) == [G, 31 * 2**30, 23 * 2**25]
+    # The parent is G always, whatever its half-life.
+    assert ref.opening_call([100_000, 1_440] * 32, pack_book([pack_member(1)], []), 1) == [G]
+
+
+def test_minutes_without_rounding():
+    """The same daughter's exact minutes are steady * (1 - (6,000 / (6,100 + v))^k). A minute loses less than a grain and keeps
+    6,000 / (6,100 + v) of what was lost before, so never are k grains missing after k minutes, nor (6,100 + v) / (100 + v)."""
+    for v in (0, 18, 100, 1_000, 100_000):
+        kept, steady = ref.Fraction(6_000, 6_100 + v), ref.Fraction(100 * G, 100 + v)
+        factors, power = ref.shut_room(line_book(T1)), ref.Fraction(1)
+        for minute in range(1, 301):
+            factors, power = ref.minute_later(v, line_book(T1), factors), power * kept
+            missing = steady * (1 - power) - factors[1]
+            assert 0 <= missing < min(minute, 1 / (1 - kept))
+
+
+def test_promise():
+    """At one rate, over every minute there is: until nothing changes, which is for ever."""
+    rng = make_cases.Random(0x4D696E75746573)
+    books = [example_book(gas) for gas in GASES] + [random_book(rng, n) for n in (1, 2, 3, 4, 5, 6, 16)]
+    for book in books + [line_book(1, 1, 1), line_book(60_000_000_000_000, 1, 60_000_000_000_000)]:
+        for v in (0, 1, 18, 60, 100, 1_000, 100_000, rng.spread(0, 100_000)):
+            assert ref.check_minutes(v, book, 100_000) is not None
+
+
+def most_missing(v, book):
+    """For each member the grains that can be missing from the exact steady factor once nothing changes: less than these, but
+    for member 0. At rest x = (6,000 T x + K F) / (K + (6,000 + v) T) rounded down, so K F < (x + 1) * (K + v T) + 6,000 T,
+    and x is less than 1 + 6,000 T / (K + v T) below F K / (K + v T). F has its own missing grains, and one for its rounding."""
+    most = [0]
+    for i in range(1, book.n):
+        T = book.members[i].T
+        flow = sum(feed.share * most[feed.from_] for feed in book.feeds_into[i])
+        most.append(1 + ref.Fraction(6_000 * T + ref.K * (1 + ref.Fraction(flow, 100_000)), ref.K + v * T))
+    return most
+
+
+def test_at_rest():
+    """Nothing changes any more near the steady factors, never above the reported ones either, and seldom at them: each minute
+    is rounded down. (F of this minute is at most F of the balance, and a minute cannot pass F K / (K + v T) from below.)
+    Of thoron at rate 0 up to 1,011 grains stay missing, a billionth of G, and it takes 19,878 minutes."""
+    seen = {}
+    for gas in GASES:
+        book = example_book(gas)
+        for v in (0, 18, 60, 100, 1_000, 100_000):
+            rest = ref.check_minutes(v, book, 60_000)
+            factors = ref.minutes_later(v, rest, book, ref.shut_room(book))
+            reported, exact = ref.reported_factors(v, book), ref.exact_factors(v, book)
+            assert all(x <= most for x, most in zip(factors, reported))
+            missing = [most * G - x for x, most in zip(factors, exact)]
+            assert missing[0] == 0
+            assert all(0 <= less < most for less, most in zip(missing[1:], most_missing(v, book)[1:]))
+            seen[gas, v] = rest, max(most - x for x, most in zip(factors, reported))
+    assert seen["radon", 0] == (1_011, 76) and seen["radon", 18] == (908, 61)
+    assert seen["thoron", 0] == (19_878, 1_011) and seen["actinon", 0] == (1_290, 65)
+    assert [seen[gas, 100_000] for gas in GASES] == [(9, 0), (7, 0), (9, 0)]
+
+
+def test_not_reached():
+    """Where the promise stops: the steady factor is a limit, which rounding can keep out of reach for ever."""
+    for T, below in ((1, 1), (T1, 60)):  # T' stops where (6,000 x + 100 G) / 6,100 is less than x + 1: at G - 60
+        book = line_book(T)
+        rest = ref.check_minutes(0, book, 10_000)
+        assert ref.minutes_later(0, rest, book, ref.shut_room(book)) == [G, G - below]
+        assert ref.reported_factors(0, book) == [G, G]
+
+
+def test_change_of_rate():
+    """What the promise does not say: over a change of rate a factor may fall, and stand above the steady factor of its rate.
+    It speaks of one fixed rate from the shut room on."""
+    book = line_book(60_000_000_000_000)
+    shut = ref.opening_factors([(0, 1_440)], book)
+    aired = ref.opening_factors([(0, 1_440), (100_000, 1)], book)
+    assert aired[1] < shut[1] and aired[1] > 100 * ref.reported_factors(100_000, book)[1]
+    # Nor does a rate's return bring back its factors.
+    again = ref.opening_factors([(0, 1_440), (100_000, 1), (0, 1)], book)
+    assert aired[1] < again[1] < shut[1]
+
+
+def test_periods_joined():
+    """One rate in two periods is one period; and a list of periods lies between its lowest rate and its highest, minute for
+    minute: less air in a minute never gives a factor that is lower then or later."""
+    rng = make_cases.Random(0x506572696F6473)
+    for _ in range(150):
+        book = random_book(rng, rng.between(2, 6))
+        periods = [(make_cases.random_rate(rng), rng.between(1, 40)) for _ in range(rng.between(2, 5))]
+        v, minutes = periods[0]
+        cut = rng.between(1, minutes)
+        in_two = [(v, cut), (v, minutes - cut)] if cut < minutes else [(v, cut)]
+        factors = ref.opening_factors(periods, book)
+        assert ref.opening_factors(in_two + periods[1:], book) == factors
+        total = sum(minutes for _, minutes in periods)
+        least = ref.opening_factors([(max(v for v, _ in periods), total)], book)
+        most = ref.opening_factors([(min(v for v, _ in periods), total)], book)
+        assert all(a <= x <= b <= G for a, x, b in zip(least, factors, most))
+
+
+def test_opening_refusals():
+    """Each part of R-5's sentence on 3 and 22, and their places: 3, 22, the book's, 19."""
+    book = one_feed_book()
+    call = ref.opening_call
+    assert call([100_000, 1], book, 2) == [G, 1_036_297_481] and call([100_001, 1], book, 2) == 3
+    assert call([0, 1, 0], book, 2) == call([0, 1, 100_000], book, 2) == 22  # odd
+    assert call([0, 1, 100_001], book, 2) == call([100_001], book, 2) == 3  # an unpaired last number is a rate
+    assert call([], book, 2) == call([0, 1] * 33, book, 2) == 22  # count
+    assert isinstance(call([0, 1] * 32, book, 2), list)
+    assert call([0, 0], book, 2) == call([0, 1_441], book, 2) == 22  # length
+    assert isinstance(call([0, 1_440], book, 2), list)
+    assert call([0, 100_001], book, 2) == 22  # minutes are no rate
+    assert call([0, 0, 100_001, 1], book, 2) == call([0, 1] * 32 + [100_001, 1], book, 2) == 3
+    assert call([0, 0], b"", 0) == 22 and call([0, 1], b"", 0) == 9
+    assert call([0, 1], book, 1) == 19 and call([0, 0], book, 1) == 22 and len(call([0, 1], book, 20)) == 2
+
+
+def test_opening_text():
+    """What `opening` writes: for periods, and at one rate for every so many minutes."""
+    book = one_feed_book()
+    assert ref.opening_lines([300, 2], book) == "factor 0 1099511627776\nfactor 1 33285996544\n"
+    assert ref.opening_lines([300, 0], book) == "refused 22\n" and ref.opening_lines([100_001], b"") == "refused 3\n"
+    lines = ref.opening_every(300, 5, 2, ref.read_book(book))  # (1 - (15/16)^2) / 4 and (1 - (15/16)^4) / 4
+    assert lines == "2 1.000E+00 3.027E-02\n4 1.000E+00 5.688E-02\n"
+    assert ref.opening_every(300, 1, 1, ref.read_book(book)) == "1 1.000E+00 1.563E-02\n"  # a 64th: a half, which goes up
+    assert ref.opening_every(300, 4, 5, ref.read_book(book)) == ""
+    assert len(ref.opening_every(18, 1_440, 60, example_book("radon")).splitlines()) == 24
 
 
 def main():

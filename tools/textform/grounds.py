@@ -45,6 +45,10 @@ GROUNDS = {
     19: ("The list lent to the factor call is shorter than the chain.", "the program that calls; `screen` never says this"),
     20: ("A table has no rate, or more than 200.", "the rates given to `table`"),
     21: ("The table is longer than the buffer lent to the call.", "the program that calls; `table` never says this"),
+    22: (
+        "A rate has no minutes after it, or there is no period or more than 32, or one has 0 minutes or more than 1,440.",
+        "the periods given to `opening`: rate and minutes in turn",
+    ),
 }
 
 
