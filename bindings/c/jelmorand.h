@@ -1,11 +1,11 @@
 /* Jelmorand: chain balance and screening of radon, thoron and actinon indoors.
  *
- * Link with libjelmorand.a (x86-64 Linux). All three functions are proved to answer what is said here for every input, on the
+ * Link with libjelmorand.a (x86-64 Linux). All four functions are proved to answer what is said here for every input, on the
  * condition that a C caller must keep and that nothing checks: each pointer is not null, is aligned for its type, and has at
  * least as many elements behind it as the length after it says, also where that length is 0 (any element's address will do
  * then); and what `out` points to overlaps nothing else that is passed. A length is at most PTRDIFF_MAX bytes.
- * None of them allocates, blocks or keeps a pointer, and all may be called from several threads at once. Of the stack a factor call
- * takes under 2 KB, a report or a table under 3 KB, as measured.
+ * None of them allocates, blocks or keeps a pointer, and all may be called from several threads at once. Of the stack a call for
+ * factors takes under 2 KB, a report or a table under 3 KB, as measured.
  *
  * Every function answers an int64_t: the answer itself where it is not negative, and minus the number of the refusal otherwise,
  * as in  if (answer == -JELMORAND_BOOK_TOO_SHORT).
@@ -24,7 +24,7 @@
 extern "C" {
 #endif
 
-/* The most members that a book has, so the most places that jelmorand_factors writes. */
+/* The most members that a book has, so the most places that jelmorand_factors and jelmorand_factors_after write. */
 #define JELMORAND_MAX_MEMBERS 16
 
 /* No report has more bytes than this. */
@@ -36,8 +36,15 @@ extern "C" {
 /* No table has more bytes than this. */
 #define JELMORAND_TABLE_ROOM 33400
 
-/* The grounds for refusal, in the order in which they are checked. A factor call makes checks 3 and 9 to 19, a job 1 to 18,
- * a table 3, 9 to 18, 20 and 21. The Rust and Python wrappers say the same sentences. */
+/* The most periods that jelmorand_factors_after takes. */
+#define JELMORAND_MAX_PERIODS 32
+
+/* The most minutes that a period has. */
+#define JELMORAND_MAX_MINUTES 1440
+
+/* The grounds for refusal, in the order in which they are checked, save that 22 comes straight after 3. A factor call makes
+ * checks 3 and 9 to 19, a job 1 to 18, a table 3, 9 to 18, 20 and 21, the factors after periods 3, 22 and 9 to 19. The Rust and
+ * Python wrappers say the same sentences. */
 enum jelmorand_refusal {
     /* the job has fewer than 48 bytes */
     JELMORAND_JOB_TOO_SHORT = 1,
@@ -80,7 +87,9 @@ enum jelmorand_refusal {
     /* the list of rates is empty or has over 200 */
     JELMORAND_RATE_COUNT_OUT_OF_RANGE = 20,
     /* the table is longer than the lent buffer */
-    JELMORAND_BUFFER_TOO_SHORT = 21
+    JELMORAND_BUFFER_TOO_SHORT = 21,
+    /* the list of periods has an odd length, or does not have 1 to 32 periods of 1 to 1,440 minutes each */
+    JELMORAND_PERIODS_OUT_OF_RANGE = 22
 };
 
 /* The factor of every member of a chain book at one ventilation rate.
@@ -120,6 +129,22 @@ int64_t jelmorand_report(const uint8_t *job, size_t job_len, uint8_t *out, size_
  * JELMORAND_TABLE_ROOM bytes suffice for every text. */
 int64_t jelmorand_table(const uint32_t *rates, size_t rates_len, const uint8_t *book, size_t book_len, uint8_t *out,
                         size_t out_len);
+
+/* The factor of every member of a chain book after periods of airing, minute by minute from a shut room: there the parent gas has
+ * 1,099,511,627,776 grains, as it has always, and every other member 0.
+ *
+ * periods: rate and minutes in turn, so two numbers a period; 1 to 32 periods. A rate is in hundredths of an air change per hour,
+ * 0 to 100,000; a period has 1 to 1,440 minutes, and begins with the factors that the one before it has left.
+ * book: the bytes of the chain book.
+ * out: where the factors at the end of the last period go, in grains as in jelmorand_factors.
+ *
+ * Accepted, it writes the first n places of `out`, no others, and answers n, the number of members, 1 to 16.
+ * Refused, it answers minus the refusal's number, and leaves `out` as it was. A number without minutes after it, at the end of
+ * the list, counts as a rate: it is refused with 3 where it is too high, and with 22 otherwise.
+ *
+ * The time that it takes grows with the minutes of all periods together, at most 46,080. */
+int64_t jelmorand_factors_after(const uint32_t *periods, size_t periods_len, const uint8_t *book, size_t book_len, uint64_t *out,
+                                size_t out_len);
 
 #ifdef __cplusplus
 }

@@ -1,4 +1,4 @@
-/* Calls all three functions on rows of document 01 and on refusals, and says which answer is wrong, if one is. */
+/* Calls all four functions on rows of document 01, on periods and on refusals, and says which answer is wrong, if one is. */
 #include "jelmorand.h"
 
 #include <stdio.h>
@@ -83,6 +83,63 @@ static void check_factors(void)
     expect(out[0] == MARK && out[1] == MARK, "the list after a refusal");
 }
 
+/* At rate 300 this book's member keeps 60 of 64 parts each minute and gains one of the parent's, at 6,700 the same of 128. */
+static void check_factors_after(void)
+{
+    static const uint32_t periods[][4] = {{300, 1}, {300, 2}, {300, 1, 6700, 1}, {6700, 1, 300, 1}};
+    static const size_t lengths[] = {2, 2, 4, 4};
+    static const uint64_t factors[] = {UINT64_C(1) << 34, UINT64_C(31) << 30, UINT64_C(31) << 29, UINT64_C(47) << 29};
+    uint8_t book[128];
+    size_t length = one_feed(book, 0);
+    for (int i = 0; i < 4; i++) {
+        uint64_t out[3] = {MARK, MARK, MARK};
+        expect(jelmorand_factors_after(periods[i], lengths[i], book, length, out, 3) == 2, "the count of members after periods");
+        expect(out[0] == PARENT_GRAINS && out[1] == factors[i], "a factor after periods");
+        expect(out[2] == MARK, "the place past the factors after periods");
+    }
+}
+
+/* What is answered to periods with a book and a list that are too short: their own refusal comes before both. */
+static int64_t after_periods(const uint32_t *periods, size_t length)
+{
+    uint8_t book[1] = {0};
+    uint64_t out[1] = {MARK};
+    int64_t answer = jelmorand_factors_after(periods, length, book, 0, out, 0);
+    expect(out[0] == MARK, "the list after refused periods");
+    return answer;
+}
+
+static void check_refused_periods(void)
+{
+    static const uint32_t odd[] = {300, 1, 100000};
+    static const uint32_t odd_too_high[] = {300, 1, 100001};
+    static const uint32_t no_minutes[] = {300, 0};
+    static const uint32_t too_long[] = {300, JELMORAND_MAX_MINUTES + 1};
+    const size_t most = 2 * JELMORAND_MAX_PERIODS;
+    uint32_t many[2 * JELMORAND_MAX_PERIODS + 2];
+    for (size_t i = 0; i < most + 2; i++)
+        many[i] = 1;
+    expect(after_periods(odd_too_high, 3) == -JELMORAND_RATE_TOO_HIGH, "refusal 3 of an odd list");
+    expect(after_periods(odd, 3) == -JELMORAND_PERIODS_OUT_OF_RANGE, "refusal 22 of an odd list");
+    expect(after_periods(odd, 0) == -JELMORAND_PERIODS_OUT_OF_RANGE, "refusal 22 of no periods");
+    expect(after_periods(no_minutes, 2) == -JELMORAND_PERIODS_OUT_OF_RANGE, "refusal 22 of no minutes");
+    expect(after_periods(too_long, 2) == -JELMORAND_PERIODS_OUT_OF_RANGE, "refusal 22 of too many minutes");
+    expect(after_periods(many, most + 2) == -JELMORAND_PERIODS_OUT_OF_RANGE, "refusal 22 of too many periods");
+    expect(after_periods(many, most) == -JELMORAND_BOOK_TOO_SHORT, "refusal 9 after the most periods");
+}
+
+static void check_lists_after(void)
+{
+    static const uint32_t periods[] = {300, 1};
+    uint8_t book[128];
+    uint64_t out[2] = {MARK, MARK};
+    const size_t length = one_feed(book, 0);
+    expect(jelmorand_factors_after(periods, 2, book, length, out, 1) == -JELMORAND_LIST_TOO_SHORT, "refusal 19 after periods");
+    expect(jelmorand_factors_after(periods, 2, book, length, out, 0) == -JELMORAND_LIST_TOO_SHORT, "refusal 19 after, of no list");
+    expect(out[0] == MARK && out[1] == MARK, "the list that is too short after periods");
+    expect(jelmorand_factors_after(periods, 2, book, length, out, 2) == 2, "a list of just n places after periods");
+}
+
 static void check_report(void)
 {
     static const char text[] = "factor 0 1099511627776\nconcentration 37000\nverdict below\nlevel 37000\n"
@@ -163,6 +220,9 @@ static void check_refused_tables(void)
 int main(void)
 {
     check_factors();
+    check_factors_after();
+    check_refused_periods();
+    check_lists_after();
     check_report();
     check_verdicts();
     check_table();

@@ -20,7 +20,7 @@
 #define FACTORS_LIMIT 2048
 #define JOB_LIMIT 4096
 
-enum call { NONE, FACTORS, REPORT, TABLE, CALLS };
+enum call { NONE, FACTORS, AFTER, REPORT, TABLE, CALLS };
 
 static _Alignas(64) uint8_t space[SPACE];
 static ucontext_t here, there;
@@ -28,6 +28,7 @@ static ucontext_t here, there;
 /* What the call on the painted stack is given. */
 static enum call call;
 static uint32_t rates[JELMORAND_MAX_RATES];
+static const uint32_t periods[] = {500, 2, 100000, 1};
 static uint8_t job[65536];
 static size_t job_length;
 
@@ -47,6 +48,9 @@ static void make_call(void)
     switch (call) {
     case FACTORS:
         answer = jelmorand_factors(rates[1], book, book_length(), factors, JELMORAND_MAX_MEMBERS);
+        break;
+    case AFTER:
+        answer = jelmorand_factors_after(periods, 4, book, book_length(), factors, JELMORAND_MAX_MEMBERS);
         break;
     case REPORT:
         answer = jelmorand_report(job, job_length, text, JELMORAND_REPORT_ROOM);
@@ -125,7 +129,8 @@ int main(int count, char **words)
                 most[which] = bytes;
         }
     fclose(cases);
-    printf("stack: the most over %d recorded jobs: a factor call %zu bytes, a whole job with its report %zu, a table of 200 rates %zu\n",
-           jobs, most[FACTORS], most[REPORT], most[TABLE]);
-    return jobs == 0 || most[FACTORS] >= FACTORS_LIMIT || most[REPORT] >= JOB_LIMIT;
+    printf("stack: the most over %d recorded jobs: a factor call %zu bytes, factors after periods %zu, "
+           "a whole job with its report %zu, a table of 200 rates %zu\n",
+           jobs, most[FACTORS], most[AFTER], most[REPORT], most[TABLE]);
+    return jobs == 0 || most[FACTORS] >= FACTORS_LIMIT || most[AFTER] >= FACTORS_LIMIT || most[REPORT] >= JOB_LIMIT;
 }

@@ -31,6 +31,12 @@ MAX_RATES = 200
 TABLE_ROOM = 33_400
 """No table has more bytes than this."""
 
+MAX_PERIODS = 32
+"""The most periods that `factors_after` takes."""
+
+MAX_MINUTES = 1_440
+"""The most minutes that a period has."""
+
 GROUNDS = {
     1: "the job has fewer than 48 bytes",
     2: "kind, medium or unit is not a listed value, or the job's zero byte is not zero",
@@ -53,12 +59,13 @@ GROUNDS = {
     19: "the lent list has fewer places than the book has members",
     20: "the list of rates is empty or has over 200",
     21: "the table is longer than the lent buffer",
+    22: "the list of periods has an odd length, or does not have 1 to 32 periods of 1 to 1,440 minutes each",
 }
-"""The grounds for refusal by number, in checking order, in the words of the C header."""
+"""The grounds for refusal by number, in checking order save that 22 comes straight after 3, in the words of the C header."""
 
 
 class Refused(ValueError):
-    """A job, a factor call or a table that is refused, for the first of the grounds that is met.
+    """A job, a call for factors or a table that is refused, for the first of the grounds that is met.
 
     `number` is the ground's number, the one that a refused report prints, and `sentence` says what is wrong.
     """
@@ -111,15 +118,18 @@ def _shared_object() -> pathlib.Path:
 
 
 def _library() -> ctypes.CDLL:
-    """The shared object, with the types of its three functions."""
+    """The shared object, with the types of its four functions."""
     library = ctypes.CDLL(str(_shared_object()))
     size, byte_list, room = ctypes.c_size_t, ctypes.c_char_p, ctypes.POINTER(ctypes.c_char)
-    library.jelmorand_factors.argtypes = [ctypes.c_uint32, byte_list, size, ctypes.POINTER(ctypes.c_uint64), size]
+    number_list, places = ctypes.POINTER(ctypes.c_uint32), ctypes.POINTER(ctypes.c_uint64)
+    library.jelmorand_factors.argtypes = [ctypes.c_uint32, byte_list, size, places, size]
     library.jelmorand_factors.restype = ctypes.c_int64
     library.jelmorand_report.argtypes = [byte_list, size, room, size]
     library.jelmorand_report.restype = ctypes.c_int64
-    library.jelmorand_table.argtypes = [ctypes.POINTER(ctypes.c_uint32), size, byte_list, size, room, size]
+    library.jelmorand_table.argtypes = [number_list, size, byte_list, size, room, size]
     library.jelmorand_table.restype = ctypes.c_int64
+    library.jelmorand_factors_after.argtypes = [number_list, size, byte_list, size, places, size]
+    library.jelmorand_factors_after.restype = ctypes.c_int64
     return library
 
 
@@ -140,11 +150,19 @@ def _plain(data: Bytes, what: str) -> bytes:
     return bytes(data)
 
 
+def _in_32_bits(number: int, what: str) -> int:
+    """A number in 32 bits. One of 33 bits or more would be cut; it is refused as the largest is."""
+    if number < 0:
+        raise ValueError(f"the {what} is {number}: a {what} is not negative")
+    return min(number, 2**32 - 1)
+
+
 def _rate(v: int) -> int:
-    """A rate in 32 bits. One of 33 bits or more would be cut; it is refused as the largest rate is."""
-    if v < 0:
-        raise ValueError(f"the rate is {v}: a rate is not negative")
-    return min(v, 2**32 - 1)
+    return _in_32_bits(v, "rate")
+
+
+def _minutes(minutes: int) -> int:
+    return _in_32_bits(minutes, "number of minutes")
 
 
 def factors(v: int, book: Bytes) -> List[int]:
@@ -157,6 +175,24 @@ def factors(v: int, book: Bytes) -> List[int]:
     rate, data = _rate(v), _plain(book, "book")
     places = (ctypes.c_uint64 * MAX_MEMBERS)()
     count = _answered(_LIBRARY.jelmorand_factors(rate, data, len(data), places, MAX_MEMBERS))
+    return list(places[:count])
+
+
+def factors_after(periods: Iterable[int], book: Bytes) -> List[int]:
+    """The factor of every member of a chain book after periods of airing, minute by minute from a shut room, in which all but the
+    parent are 0; in grains as in `factors`, the parent first.
+
+    periods: rate and minutes in turn, as in [0, 480, 200, 60] for eight hours without airing and one with two air changes; 1 to 32
+    periods. A rate is in hundredths of an air change per hour, 0 to 100,000, and a period has 1 to 1,440 minutes.
+    book: the bytes of the chain book.
+    Raises Refused where a rate is too high, the periods are not as said or the book is not accepted, and ValueError for a number
+    below 0.
+    """
+    numbers = [_minutes(number) if i % 2 else _rate(number) for i, number in enumerate(periods)]
+    data = _plain(book, "book")
+    listed = (ctypes.c_uint32 * len(numbers))(*numbers)
+    places = (ctypes.c_uint64 * MAX_MEMBERS)()
+    count = _answered(_LIBRARY.jelmorand_factors_after(listed, len(listed), data, len(data), places, MAX_MEMBERS))
     return list(places[:count])
 
 

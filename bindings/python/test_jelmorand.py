@@ -1,4 +1,4 @@
-"""The Python module against the recorded cases and tables, the stored examples, the C header and document 01's rows.
+"""The Python module against the recorded cases and tables, the reference, the stored examples, the C header and document 01's rows.
 
     JELMORAND_SO=target/bindings/libjelmorand.so python3 bindings/python/test_jelmorand.py
 """
@@ -7,6 +7,7 @@ import ctypes
 import os
 import pathlib
 import pickle
+import random
 import re
 import struct
 import subprocess
@@ -41,6 +42,18 @@ def recorded_tables():
         book = at + 8 + 4 * count
         yield list(struct.unpack_from(f"<{count}I", data, at + 8)), data[book : book + length], room
         at = book + length
+
+
+def any_periods(chance):
+    """One to four short periods within the limits; one list in three has a number changed or its last left out."""
+    periods = []
+    for _ in range(chance.randint(1, 4)):
+        periods += [chance.choice((0, 18, 6_000, 100_000)), chance.randint(1, 4)]
+    if chance.randrange(6) == 0:
+        periods.pop()
+    if chance.randrange(6) == 0:
+        periods[chance.randrange(len(periods))] = chance.choice((0, 1_441, 100_001, 2**32 - 1))
+    return periods
 
 
 def text_of(report):
@@ -91,6 +104,96 @@ class Factors(unittest.TestCase):
         for wrong in (8, "book", None, [1, 0]):
             with self.assertRaises(TypeError):
                 jelmorand.factors(100, wrong)
+
+
+def lent_factors_after(periods, book, room):
+    """The answer, and the whole list, every place of which was 7 before the call."""
+    listed = (ctypes.c_uint32 * len(periods))(*periods)
+    places = (ctypes.c_uint64 * room)(*[7] * room)
+    answer = jelmorand._LIBRARY.jelmorand_factors_after(listed, len(listed), book, len(book), places, room)
+    return answer, list(places)
+
+
+def expected_after(periods, book, room):
+    """The same by the reference."""
+    answer = reference.opening_call(periods, book, room)
+    if isinstance(answer, int):
+        return -answer, [7] * room
+    return len(answer), answer + [7] * (room - len(answer))
+
+
+class FactorsAfter(unittest.TestCase):
+    BOOK = Factors.BOOK
+
+    def refused(self, periods, book):
+        with self.assertRaises(jelmorand.Refused) as caught:
+            jelmorand.factors_after(periods, book)
+        return caught.exception.number
+
+    def test_rows(self):
+        """At rate 300 the member keeps 60 of 64 parts each minute and gains one of the parent's, at 6,700 the same of 128."""
+        for periods, factor in (([300, 1], 2**34), ([300, 2], 31 * 2**30)):
+            self.assertEqual(jelmorand.factors_after(periods, self.BOOK), [GRAINS, factor])
+        for periods, factor in (([300, 1, 6_700, 1], 31 * 2**29), ([6_700, 1, 300, 1], 47 * 2**29)):
+            self.assertEqual(jelmorand.factors_after(periods, self.BOOK), [GRAINS, factor])
+
+    def test_recorded_books(self):
+        """Every recorded book after several lists of periods, good and refused, in lists with room and without: every place."""
+        lists = ([18, 2, 100_000, 1, 0, 2], [0, 1, 100_001], [0, 1, 100_000], [0, 0], [])
+        for count, job in enumerate(recorded_jobs()):
+            for periods in lists:
+                for room in (20, count % 17):
+                    self.assertEqual(lent_factors_after(periods, job[48:], room), expected_after(periods, job[48:], room))
+
+    def test_reference(self):
+        """Random periods with every recorded book: the list, or the refusal's number."""
+        chance = random.Random(5)
+        for job in recorded_jobs():
+            periods = any_periods(chance)
+            try:
+                answer = jelmorand.factors_after(periods, job[48:])
+            except jelmorand.Refused as refused:
+                answer = refused.number
+            self.assertEqual(answer, reference.opening_call(periods, job[48:], jelmorand.MAX_MEMBERS))
+
+    def test_longest(self):
+        """The most periods of the most minutes: a room at one rate comes near the steady factor, from below."""
+        periods = [100, jelmorand.MAX_MINUTES] * jelmorand.MAX_PERIODS
+        steady = jelmorand.factors(100, self.BOOK)[1]
+        self.assertEqual(jelmorand.factors_after(periods, self.BOOK), reference.opening_call(periods, self.BOOK, 2))
+        self.assertTrue(steady - 100 < jelmorand.factors_after(periods, self.BOOK)[1] <= steady)
+
+    def test_periods_out_of_range(self):
+        for periods in ([], [0], [0, 0], [0, 1_441], [0, 2**32], [0, 2**64 + 1], [0, 1, 100_000], [0, 1] * 33):
+            self.assertEqual(self.refused(periods, self.BOOK), 22)
+            self.assertEqual(self.refused(periods, b""), 22)
+        self.assertEqual(self.refused([0, 1] * 32, b""), 9)
+
+    def test_rates_out_of_range(self):
+        for v in (100_001, 2**32 - 1, 2**32, 2**64 + 18):
+            for periods in ([v], [v, 1], [0, 1, v], [0, 0, v, 1]):
+                self.assertEqual(self.refused(periods, self.BOOK), 3)
+
+    def test_negative_numbers(self):
+        with self.assertRaisesRegex(ValueError, "the rate is -1: a rate is not negative"):
+            jelmorand.factors_after([-1, 1], self.BOOK)
+        with self.assertRaisesRegex(ValueError, "the number of minutes is -1: a number of minutes is not negative"):
+            jelmorand.factors_after([0, -1], self.BOOK)
+
+    def test_kinds_of_lists(self):
+        factors = jelmorand.factors_after([0, 480, 200, 60], self.BOOK)
+        for periods in ((0, 480, 200, 60), iter([0, 480, 200, 60])):
+            self.assertEqual(jelmorand.factors_after(periods, self.BOOK), factors)
+        for wrong in (100, "100", None, [1.5, 1], [1, 1.5]):
+            with self.assertRaises(TypeError):
+                jelmorand.factors_after(wrong, self.BOOK)
+
+    def test_kinds_of_bytes(self):
+        for kind in (bytearray, memoryview):
+            self.assertEqual(jelmorand.factors_after([100, 9], kind(self.BOOK)), jelmorand.factors_after([100, 9], self.BOOK))
+        for wrong in (8, "book", None, [1, 0]):
+            with self.assertRaises(TypeError):
+                jelmorand.factors_after([100, 9], wrong)
 
 
 def lent_table(rates, book, room):
@@ -181,13 +284,15 @@ class Refusals(unittest.TestCase):
     def test_sentences_are_the_header_s(self):
         listed = re.findall(r"/\* (.*) \*/\n    JELMORAND_[A-Z_]+ = (\d+)", self.HEADER)
         self.assertEqual({int(number): sentence for sentence, number in listed}, jelmorand.GROUNDS)
-        self.assertEqual(list(jelmorand.GROUNDS), list(range(1, 22)))
+        self.assertEqual(list(jelmorand.GROUNDS), list(range(1, 23)))
 
     def test_sizes_are_the_header_s(self):
         self.assertIn(f"#define JELMORAND_REPORT_ROOM {jelmorand.REPORT_ROOM}\n", self.HEADER)
         self.assertIn(f"#define JELMORAND_MAX_MEMBERS {jelmorand.MAX_MEMBERS}\n", self.HEADER)
         self.assertIn(f"#define JELMORAND_TABLE_ROOM {jelmorand.TABLE_ROOM}\n", self.HEADER)
         self.assertIn(f"#define JELMORAND_MAX_RATES {jelmorand.MAX_RATES}\n", self.HEADER)
+        self.assertIn(f"#define JELMORAND_MAX_PERIODS {jelmorand.MAX_PERIODS}\n", self.HEADER)
+        self.assertIn(f"#define JELMORAND_MAX_MINUTES {jelmorand.MAX_MINUTES}\n", self.HEADER)
 
     def test_what_is_raised(self):
         with self.assertRaises(jelmorand.Refused) as caught:

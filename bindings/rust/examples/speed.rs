@@ -1,27 +1,35 @@
-//! Times the factor call and a whole job for many rates, and a table of 200, beside the plain rewrite, at a book of 16 members and
-//! 64 feeds. The rewrite of a job allocates its text, and that of a table searches for each entry, digit by digit, so their times
-//! are no measure of a plain program's, and no ratio is printed there.
+//! Times the factor call and a whole job for many rates, a table of 200, and the factors after the most periods of the most minutes,
+//! beside the plain rewrite, at a book of 16 members and 64 feeds. The rewrite of a job allocates its text, and that of a table
+//! searches for each entry, digit by digit, so their times are no measure of a plain program's, and no ratio is printed there.
 #[path = "../tests/common/mod.rs"]
 mod common;
 
 use common::books::book_of;
 use common::random::Random;
-use common::{plain, plain_job, plain_table};
+use common::{plain, plain_job, plain_minutes, plain_table};
 use std::hint::black_box;
 use std::time::{Duration, Instant};
 
 const RATES: u32 = 10_000;
 const ROUNDS: usize = 5;
 const TABLE_ROUNDS: usize = 50;
+const PERIODS_ROUNDS: usize = 30;
+
+fn timed(round: &mut impl FnMut()) -> Duration {
+    let start = Instant::now();
+    round();
+    start.elapsed()
+}
 
 /// The best time of several rounds.
 fn best(rounds: usize, mut round: impl FnMut()) -> Duration {
-    let mut time = || {
-        let start = Instant::now();
-        round();
-        start.elapsed()
-    };
-    (0..rounds).map(|_| time()).min().expect("there are rounds")
+    (0..rounds).map(|_| timed(&mut round)).min().expect("there are rounds")
+}
+
+/// The best time of each of two, their rounds in turn, so that what else the machine does falls on both.
+fn best_of_each(rounds: usize, mut one: impl FnMut(), mut other: impl FnMut()) -> (Duration, Duration) {
+    let times = (0..rounds).map(|_| (timed(&mut one), timed(&mut other)));
+    times.reduce(|best, time| (best.0.min(time.0), best.1.min(time.1))).expect("there are rounds")
 }
 
 /// The best time of several rounds over many rates.
@@ -84,9 +92,27 @@ fn time_table(book: &[u8]) {
     println!("speed: a table of 200 rates, 16 members, 64 feeds: proved {proved:?}, plain u128, by search {rewrite:?}");
 }
 
+fn time_periods(book: &[u8]) {
+    let rates = (0..jelmorand::MAX_PERIODS as u32).map(|k| k * 3_000);
+    let periods: Vec<u32> = rates.flat_map(|v| [v, jelmorand::MAX_MINUTES]).collect();
+    let (mut proved_list, mut plain_list) = ([0; jelmorand::MAX_MEMBERS], [0; jelmorand::MAX_MEMBERS]);
+    let proved_call = || {
+        jelmorand::factors_after(black_box(&periods), black_box(book), black_box(&mut proved_list)).expect("a good book");
+    };
+    let plain_call = || {
+        plain_minutes::factors_after(black_box(&periods), black_box(book), black_box(&mut plain_list)).expect("a good book");
+    };
+    let (proved, rewrite) = best_of_each(PERIODS_ROUNDS, proved_call, plain_call);
+    assert!(proved_list == plain_list, "the two lists differ");
+    let ratio = proved.as_secs_f64() / rewrite.as_secs_f64();
+    let shape = "32 periods of 1,440 minutes, 16 members, 64 feeds";
+    println!("speed: {shape}: proved {proved:?}, plain u128 {rewrite:?}, ratio {ratio:.2}");
+}
+
 fn main() {
     let book = book_of(&mut Random::fresh("speed"), 16, 64);
     time_factors(&book);
     time_report(&book);
     time_table(&book);
+    time_periods(&book);
 }

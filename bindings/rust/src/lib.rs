@@ -1,6 +1,6 @@
 //! Chain balance and screening of radon, thoron and actinon indoors.
 //!
-//! The three functions behind this crate are proved to answer what their contracts in `crates/jelmorand` say, for every input.
+//! The four functions behind this crate are proved to answer what their contracts in `crates/jelmorand` say, for every input.
 //! What is not proved is this crate: that it declares them as they are, and that it reads a report's text as it should.
 //!
 //! A job is 48 bytes, followed by a chain book; `docs/FORMAT.md` has the bytes. The job here is a gas alone with an inhalation
@@ -37,6 +37,9 @@
 //! let refused = jelmorand::factors(100_001, &book, &mut factors).unwrap_err();
 //! assert_eq!(refused.to_string(), "the rate exceeds 100,000");
 //!
+//! // Shut for eight hours, then aired for one.
+//! assert_eq!(jelmorand::factors_after(&[0, 480, 200, 60], &book, &mut factors)?, 1);
+//!
 //! let table = jelmorand::table(&[18, 100], &book)?;
 //! assert_eq!(table, "18 1.000E+00\n100 1.000E+00\n");
 //! # Ok::<(), jelmorand::Refusal>(())
@@ -62,6 +65,12 @@ pub const MAX_RATES: usize = 200;
 /// No table has more bytes than this.
 pub const TABLE_ROOM: usize = 33_400;
 
+/// The most periods that `factors_after` takes.
+pub const MAX_PERIODS: usize = 32;
+
+/// The most minutes that a period has.
+pub const MAX_MINUTES: u32 = 1_440;
+
 extern "C" {
     fn jelmorand_factors(v: u32, book: *const u8, book_len: usize, out: *mut u64, out_len: usize) -> i64;
     fn jelmorand_report(job: *const u8, job_len: usize, out: *mut u8, out_len: usize) -> i64;
@@ -71,6 +80,14 @@ extern "C" {
         book: *const u8,
         book_len: usize,
         out: *mut u8,
+        out_len: usize,
+    ) -> i64;
+    fn jelmorand_factors_after(
+        periods: *const u32,
+        periods_len: usize,
+        book: *const u8,
+        book_len: usize,
+        out: *mut u64,
         out_len: usize,
     ) -> i64;
 }
@@ -86,6 +103,17 @@ fn answered(answer: i64) -> Result<usize, Refusal> {
 pub fn factors(v: u32, book: &[u8], out: &mut [u64]) -> Result<usize, Refusal> {
     // A slice's pointer is never null, is aligned and has its length of elements behind it, and `out` is borrowed alone.
     answered(unsafe { jelmorand_factors(v, book.as_ptr(), book.len(), out.as_mut_ptr(), out.len()) })
+}
+
+/// The factor of every member of a chain book after 1 to 32 periods of airing, minute by minute from a shut room, in which all but
+/// the parent are 0; in grains as in `factors`, into the first places of `out`. `periods` has rate (hundredths of an air change per
+/// hour) and minutes (1 to 1,440) in turn. Answers how many factors there are; a refusal leaves `out` as it was.
+pub fn factors_after(periods: &[u32], book: &[u8], out: &mut [u64]) -> Result<usize, Refusal> {
+    // As in `factors`.
+    let answer = unsafe {
+        jelmorand_factors_after(periods.as_ptr(), periods.len(), book.as_ptr(), book.len(), out.as_mut_ptr(), out.len())
+    };
+    answered(answer)
 }
 
 /// The report of a whole job, the job's 48 bytes and its chain book: the lines that `screen` writes.

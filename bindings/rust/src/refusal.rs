@@ -5,7 +5,7 @@ use core::fmt;
 /// Lists the grounds once: the enum with its documentation, the list of all, and each one's sentence.
 macro_rules! grounds {
     ($($name:ident = $number:literal, $sentence:literal;)*) => {
-        /// Why a factor call, a job or a table is refused, in checking order, each with its number.
+        /// Why a call is refused, in checking order save that 22 comes straight after 3, each with its number.
         #[derive(Clone, Copy, Debug, PartialEq, Eq, Hash)]
         #[non_exhaustive]
         #[repr(u32)]
@@ -14,7 +14,7 @@ macro_rules! grounds {
         }
 
         impl Refusal {
-            /// Every ground, in checking order.
+            /// Every ground, by number.
             pub const ALL: &'static [Refusal] = &[$(Refusal::$name),*];
 
             /// What is wrong, as the C header says it.
@@ -49,6 +49,7 @@ grounds! {
     ListTooShort = 19, "the lent list has fewer places than the book has members";
     RateCountOutOfRange = 20, "the list of rates is empty or has over 200";
     BufferTooShort = 21, "the table is longer than the lent buffer";
+    PeriodsOutOfRange = 22, "the list of periods has an odd length, or does not have 1 to 32 periods of 1 to 1,440 minutes each";
 }
 
 impl Refusal {

@@ -60,4 +60,6 @@ fn sizes_are_the_header_s() {
     assert!(header.contains(&format!("#define JELMORAND_MAX_MEMBERS {}\n", jelmorand::MAX_MEMBERS)));
     assert!(header.contains(&format!("#define JELMORAND_MAX_RATES {}\n", jelmorand::MAX_RATES)));
     assert!(header.contains(&format!("#define JELMORAND_TABLE_ROOM {}\n", jelmorand::TABLE_ROOM)));
+    assert!(header.contains(&format!("#define JELMORAND_MAX_PERIODS {}\n", jelmorand::MAX_PERIODS)));
+    assert!(header.contains(&format!("#define JELMORAND_MAX_MINUTES {}\n", jelmorand::MAX_MINUTES)));
 }
