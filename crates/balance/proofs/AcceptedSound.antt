@@ -12,7 +12,7 @@ use Rattle.book.specs.Fields.{members, feedCount, scaleOf, from, feedsOf}
 use Rattle.book.specs.Tests.{someIn}
 use Rattle.book.specs.BookGrounds.{walk, shareOut, feedNotFromLower, Accepted}
 use Rattle.balance.specs.Chain.{feedOf, chainOf}
-use Rattle.balance.specs.Private.Sound.{Sound, FromBelow, sharesFrom, feedsBelow}
+use Rattle.balance.specs.Sound.{Sound, FromBelow, sharesFrom, feedsBelow}
 use Rattle.refusals.proofs.FirstMet.{neither}
 use Rattle.book.proofs.NoneMet.{none-below}
 use Rattle.book.proofs.BookPasses.{accepted-passes}

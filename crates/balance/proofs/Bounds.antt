@@ -5,7 +5,7 @@ use native.Mathlib.Nat.{le-refl, le-of-eq, mul-pos, le-of-mul-le-mul-left, lt-of
 use native.Mathlib.Omega.{arith}
 use mathlib.Core.Path.{_≡_, ap}
 use Rattle.balance.specs.Chain.{Chain}
-use Rattle.balance.specs.Private.Sound.{Sound}
+use Rattle.balance.specs.Sound.{Sound}
 use Rattle.balance.specs.Balance.{G, K, removal}
 use Rattle.balance.proofs.Inflow.{inflowOf, inflow-le}
 use Rattle.balance.proofs.Flow.{AtMostInflow, inflow-bound, member-bound}

@@ -7,7 +7,7 @@ use mathlib.Core.Path.{_≡_, refl, ap, _∙_}
 use mathlib.Core.Logic.{_⊎_, inl, inr}
 use lib.ListN.{getD}
 use Rattle.balance.specs.Chain.{Chain}
-use Rattle.balance.specs.Private.Sound.{Sound}
+use Rattle.balance.specs.Sound.{Sound}
 use Rattle.balance.specs.Balance.{G, K, removal, reportedFactor}
 use Rattle.balance.specs.Exact.{numerators, denominator}
 use Rattle.balance.proofs.Inflow.{inflowOf, inflow-of-list, inflow-scaled}

@@ -13,7 +13,7 @@ use Rattle.book.specs.Table.{filled}
 use Rattle.book.proofs.Filled.{Filled}
 use Rattle.balance.specs.Rates.{ratesAt}
 use Rattle.balance.specs.Chain.{Chain, chainOf}
-use Rattle.balance.specs.Private.Sound.{Sound}
+use Rattle.balance.specs.Sound.{Sound}
 use Rattle.balance.specs.Inflow.{Fed}
 use Rattle.balance.specs.Balance.{G, K, removal, inflow, reported, reportedFactor}
 use Rattle.balance.proofs.Reported.{keptPart}

@@ -9,7 +9,7 @@ use lib.Seq.{set-set, drop-set-lt}
 use Rattle.book.specs.Table.{filled}
 use Rattle.book.proofs.Filled.{Filled, filled-none, filled-more}
 use Rattle.balance.specs.Chain.{Feed, Chain}
-use Rattle.balance.specs.Private.Sound.{FromBelow, Sound}
+use Rattle.balance.specs.Sound.{FromBelow, Sound}
 use Rattle.balance.specs.Balance.{G, inflow, inMemberOrder}
 use Rattle.balance.proofs.Inflow.{inflow-of-list, inflow-same}
 use Rattle.balance.proofs.MemberOrder.{made, made-length, made-parent, made-next, made-up-to}

@@ -7,7 +7,7 @@ use native.Mathlib.Omega.{arith}
 use mathlib.Core.Path.{_≡_}
 use mathlib.Core.List.{List, [], _∷_, _++_}
 use Rattle.balance.specs.Chain.{Feed, Chain}
-use Rattle.balance.specs.Private.Sound.{FromBelow, sharesFrom, feedsBelow, Sound}
+use Rattle.balance.specs.Sound.{FromBelow, sharesFrom, feedsBelow, Sound}
 use Rattle.balance.proofs.Inflow.{inflowOf, inflow-append}
 use Rattle.book.specs.Sums.{sumBelow}
 use Rattle.book.proofs.Sums.{sum-mono, sum-scale}

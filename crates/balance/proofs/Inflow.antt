@@ -7,7 +7,7 @@ use mathlib.Core.Path.{_≡_, refl, ap}
 use mathlib.Core.List.{List, [], _∷_, _++_}
 use lib.ListN.{getD}
 use Rattle.balance.specs.Chain.{Feed}
-use Rattle.balance.specs.Private.Sound.{FromBelow}
+use Rattle.balance.specs.Sound.{FromBelow}
 use Rattle.balance.specs.Balance.{inflow}
 
 abbrev pub inflowOf : (ℕ → ℕ) → List Feed → ℕ

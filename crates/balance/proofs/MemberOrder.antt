@@ -8,7 +8,7 @@ use lib.ListN.{length, getD, length-append, List·getD-append}
 use lib.Seq.{getD-at}
 use Rattle.book.specs.Table.{upTo}
 use Rattle.balance.specs.Chain.{Chain}
-use Rattle.balance.specs.Private.Sound.{Sound}
+use Rattle.balance.specs.Sound.{Sound}
 use Rattle.balance.specs.Balance.{G, inflow, inMemberOrder}
 use Rattle.balance.proofs.Inflow.{inflowOf, inflow-of-list, inflow-same}
 

@@ -5,7 +5,7 @@ use native.Mathlib.Nat.{le-of-eq}
 use native.Mathlib.Omega.{arith}
 use mathlib.Core.Path.{ap}
 use Rattle.balance.specs.Chain.{Chain}
-use Rattle.balance.specs.Private.Sound.{Sound}
+use Rattle.balance.specs.Sound.{Sound}
 use Rattle.balance.specs.Balance.{K}
 use Rattle.balance.proofs.Inflow.{inflow-order}
 use Rattle.balance.proofs.Equations.{ReportedFactors, ExactFactors}

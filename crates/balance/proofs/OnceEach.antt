@@ -8,7 +8,7 @@ use mathlib.Core.List.{List, [], _∷_}
 use lib.Dec.{eqb, eqb·zero-suc, eqb·suc-zero, eqb·suc-suc}
 use lib.ListN.{length}
 use Rattle.balance.specs.Chain.{Feed}
-use Rattle.balance.specs.Private.Sound.{FromBelow, sharesFrom}
+use Rattle.balance.specs.Sound.{FromBelow, sharesFrom}
 use Rattle.book.specs.BookGrounds.{occurrences}
 use Rattle.balance.proofs.Inflow.{inflowOf}
 use Rattle.book.specs.Sums.{sumBelow}

@@ -12,7 +12,7 @@ use borrow.Author.Tests.{eq-eqb}
 use Rattle.book.specs.Sums.{sumBelow}
 use Rattle.book.proofs.Sums.{sum-mono}
 use Rattle.balance.specs.Chain.{Feed}
-use Rattle.balance.specs.Private.Sound.{FromBelow, sharesFrom}
+use Rattle.balance.specs.Sound.{FromBelow, sharesFrom}
 use Rattle.balance.proofs.Inflow.{inflowOf}
 
 -- One feed's part of a sum over the members that feeds leave.

@@ -3,7 +3,7 @@ use Prim.Native.Nat.{ℕ, suc, _≤_, _<_, _/_, _*_}
 use mathlib.Core.Path.{_≡_}
 use lib.ListN.{length, getD}
 use Rattle.balance.specs.Chain.{Chain}
-use Rattle.balance.specs.Private.Sound.{Sound}
+use Rattle.balance.specs.Sound.{Sound}
 use Rattle.balance.specs.Balance.{G, K, inflow, removal, reported, reportedFactor}
 use Rattle.balance.proofs.Inflow.{inflowOf}
 use Rattle.balance.proofs.MemberOrder.{made-length, made-at, made-parent, made-inflow, made-later}

@@ -6,7 +6,7 @@ use native.Mathlib.Omega.{arith}
 use mathlib.Core.Path.{ap, _∙_}
 use lib.ListN.{getD}
 use Rattle.balance.specs.Chain.{Chain}
-use Rattle.balance.specs.Private.Sound.{Sound}
+use Rattle.balance.specs.Sound.{Sound}
 use Rattle.balance.specs.Balance.{G, inflow, reported, reportedFactor}
 use Rattle.balance.specs.Exact.{numerators, denominator}
 use Rattle.balance.specs.Promises.{FactorPromise, FallPromise}

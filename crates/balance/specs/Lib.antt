@@ -1,5 +1,6 @@
 pub mod Rates
 pub mod Chain
+pub mod Sound
 pub mod Balance
 pub mod Inflow
 pub mod Exact

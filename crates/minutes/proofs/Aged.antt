@@ -5,7 +5,7 @@ use native.Mathlib.Nat.{le-of-suc-le-suc, mul-le-mul-right}
 use native.Mathlib.Omega.{arith}
 use mathlib.Core.Path.{_≡_, ap}
 use Rattle.balance.specs.Chain.{Chain}
-use Rattle.balance.specs.Private.Sound.{Sound}
+use Rattle.balance.specs.Sound.{Sound}
 use Rattle.balance.specs.Balance.{G, K}
 use Rattle.balance.proofs.Inflow.{inflowOf, inflow-order}
 use Rattle.balance.proofs.Equations.{ExactFactors}

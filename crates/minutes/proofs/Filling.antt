@@ -14,7 +14,7 @@ use Rattle.book.specs.Table.{filled}
 use Rattle.book.proofs.Filled.{Filled, filled-ahead}
 use Rattle.balance.specs.Rates.{ratesAt}
 use Rattle.balance.specs.Chain.{Chain, chainOf}
-use Rattle.balance.specs.Private.Sound.{Sound}
+use Rattle.balance.specs.Sound.{Sound}
 use Rattle.balance.specs.Balance.{G, K, inflow}
 use Rattle.balance.specs.Inflow.{Fed}
 use Rattle.balance.proofs.AcceptedSound.{accepted-sound}

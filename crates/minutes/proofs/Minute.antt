@@ -5,7 +5,7 @@ use mathlib.Core.Path.{_≡_, ap}
 use mathlib.Core.List.{List, _++_}
 use lib.ListN.{length, getD, List·getD-append}
 use Rattle.balance.specs.Chain.{Chain}
-use Rattle.balance.specs.Private.Sound.{Sound}
+use Rattle.balance.specs.Sound.{Sound}
 use Rattle.balance.proofs.MemberOrder.{made, made-length, made-at, made-parent, made-later, made-alike}
 use Rattle.minutes.specs.Minutes.{newFactor, minute}
 use Rattle.minutes.proofs.Aged.{Aged}

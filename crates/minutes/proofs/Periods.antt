@@ -5,7 +5,7 @@ use mathlib.Core.Path.{_≡_, ap}
 use mathlib.Core.List.{List}
 use lib.ListN.{length, getD, length-replicate}
 use Rattle.balance.specs.Chain.{Chain}
-use Rattle.balance.specs.Private.Sound.{Sound}
+use Rattle.balance.specs.Sound.{Sound}
 use Rattle.balance.specs.Balance.{G}
 use Rattle.balance.proofs.Equations.{ExactFactors}
 use Rattle.minutes.specs.Minutes.{rateOf, minutesOf, afterPeriods}

@@ -109,6 +109,7 @@ one-period v k book = refl
 pub opening-promises : OpeningPromises
 opening-promises =
     record {
+      of-any-chain = λ scale chain rate last k i pos sound l within. minute-promise pos sound last l rate k i within;
       at-a-rate = at-a-rate;
       of-the-list = list-promise;
       none-above-parent = none-above-parent;

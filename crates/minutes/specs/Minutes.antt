@@ -9,7 +9,8 @@ use Rattle.balance.specs.Balance.{G, K, inMemberOrder}
 abbrev pub onceAMinute : ℕ
 onceAMinute = 6000
 
--- Member i's new factor, from its old one and its inflow, of which F is made: (6,000 × T × old factor + K × F) / (K + (6,000 + v) × T), rounded down.
+-- Member i's new factor, from its old one and its inflow, of which F is made:
+-- (6,000 × T × old factor + K × F) / (K + (6,000 + v) × T), rounded down.
 abbrev pub newFactor : ℕ → Chain → (ℕ → ℕ) → ℕ → ℕ → ℕ → ℕ
 newFactor scale chain rate i old fed =
     let T = chain .halfLife i in

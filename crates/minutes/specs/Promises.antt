@@ -7,6 +7,7 @@ use Rattle.book.specs.Fields.{members, scaleOf}
 use Rattle.book.specs.BookGrounds.{Accepted}
 use Rattle.balance.specs.Rates.{ratesAt}
 use Rattle.balance.specs.Chain.{Chain, chainOf}
+use Rattle.balance.specs.Sound.{Sound}
 use Rattle.balance.specs.Balance.{G}
 use Rattle.balance.specs.Exact.{numerator, denominator}
 use Rattle.balance.specs.declared.FactorAnswer.{FactorAnswer}
@@ -30,7 +31,11 @@ OpeningPromise periods book answer list =
     NotAboveSteady (scaleOf book) (chainOf book) (ratesAt book v) i (getD list i 0)
 
 pub record OpeningPromises : Type 0 where
-  -- of the definitions, whichever minute the room is looked at
+  -- of the definitions, whichever minute the room is looked at: over any share's scale, any sound chain and any rate of each member
+  pub of-any-chain :
+      (scale : ℕ) (chain : Chain) (rate : ℕ → ℕ) (last k i : ℕ) → 0 < scale → Sound scale chain → last < chain .count → i ≤ last →
+      MinutePromise scale chain rate last k i
+  -- and so of an accepted book's members
   pub at-a-rate :
       (book : List ℕ) (v k i : ℕ) → Accepted book → i < members book →
       MinutePromise (scaleOf book) (chainOf book) (ratesAt book v) (members book - 1) k i

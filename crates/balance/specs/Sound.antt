@@ -1,4 +1,4 @@
--- What the checks of a book ensure, in the chain's own terms.
+-- What grounds 17 and 18 ensure of a book, in the chain's own terms.
 use Prim.Native.Nat.{ℕ, zero, suc, _+_, _≤_, _<_}
 use mathlib.Core.Bool.{cond}
 use mathlib.Core.List.{List, [], _∷_, _++_}
@@ -20,6 +20,7 @@ abbrev pub feedsBelow : Chain → ℕ → List Feed
 feedsBelow chain zero = []
 feedsBelow chain (suc k) = feedsBelow chain k ++ chain .feeds k
 
+-- A member is fed by lower ones alone, and the shares out of each add up to at most the scale.
 pub record Sound (scale : ℕ) (chain : Chain) : Type 0 where
   pub from-lower : (k : ℕ) → k < chain .count → FromBelow k (chain .feeds k)
   pub shares-out : (i : ℕ) → i < chain .count → sharesFrom i (feedsBelow chain (chain .count)) ≤ scale
