@@ -1,7 +1,7 @@
 // The numbers that stand as arguments, in digits.
 use libc::STDERR_FILENO;
+use std::num::wrapping_add_usize;
 ghost use mathlib.Core.Path.{_≡_};
-ghost use Prim.Native.Nat.{_≤_};
 ghost use lib.ListN.{length};
 
 // Stands for every number that does not fit, so that whoever limits a number refuses those too.
@@ -13,15 +13,14 @@ enum Word {
 }
 
 // Fills the list with the arguments from `first` on. Where one is not a whole number in digits, a line on standard error has the
-// program's name, the word and the sentence, which says what is wanted, and the answer is false. Few words stand before the first
-// number, so no place among the arguments wraps. What the arguments are no proof knows, so no more is said of the list than its length.
+// program's name, the word and the sentence, which says what is wanted, and the answer is false. What the arguments are no proof knows,
+// so no more is said of the list than its length.
 pub fn read_numbers(first: usize, name: &[u8], sentence: &[u8], numbers: &mut [u32]) -> bool
-    requires { ⌜ first ≤ 1000 ⌝ }
     ensures { λ _. ⌜ length (now (numbers .exit)) ≡ length (now (numbers .entry)) ⌝ }
 {
     let mut i = 0;
     while i < numbers.len() {
-        let word = read_number(first + i, name, sentence);
+        let word = read_number(wrapping_add_usize(first, i), name, sentence);
         match word {
             Word::Number(number) => numbers[i] = number,
             Word::NoNumber => return false,
