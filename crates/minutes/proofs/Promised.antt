@@ -1,10 +1,10 @@
 -- What R-5 promises: of the definitions by the laws of the minutes, since an accepted book means a sound chain; of a call because place i of its
 -- list holds member i's factor.
-use Prim.Native.Nat.{ℕ, suc, _-_, _≤_, _<_}
+use Prim.Native.Nat.{ℕ, _-_, _≤_, _<_}
 use native.Mathlib.Nat.{le-refl, le-of-mul-le-mul-left, mul-le-mul-right}
 use native.Mathlib.Omega.{arith}
-use mathlib.Core.Path.{_≡_, refl, subst, sym}
-use mathlib.Core.List.{List, [], _∷_}
+use mathlib.Core.Path.{_≡_, subst, sym}
+use mathlib.Core.List.{List}
 use lib.Dec.{lit<}
 use lib.ListN.{length, getD}
 use Rattle.refusals.specs.Grounds.{firstMet}
@@ -22,11 +22,11 @@ use Rattle.balance.proofs.CallAnswers.{filled-passed, place-holds}
 use Rattle.balance.proofs.Equations.{ExactFactors, exact-solves}
 use Rattle.balance.proofs.Numerators.{denominator-pos}
 use Rattle.balance.proofs.SoundFactors.{factor-promise}
-use Rattle.minutes.specs.Minutes.{start, minutes, rateOf, afterPeriods}
+use Rattle.minutes.specs.Minutes.{start, minutes, rateOf}
 use Rattle.minutes.specs.Opening.{periodCount, openingGrounds, factorsAfter, openingAnswer, openingList}
-use Rattle.minutes.specs.Promises.{NotAboveSteady, MinutePromise, OpeningPromise, OpeningPromises}
-use Rattle.minutes.proofs.Repeated.{minute-promise}
-use Rattle.minutes.proofs.Periods.{periods-below}
+use Rattle.minutes.specs.Promises.{NotAboveSteady, MinutePromise, OpeningPromise, AtOneRate, allMinutes, OpeningPromises}
+use Rattle.minutes.proofs.Repeated.{minutes-order, minute-promise}
+use Rattle.minutes.proofs.Periods.{periods-at-one-rate, periods-below}
 use Rattle.minutes.proofs.Holding.{members-are, last-counts}
 use Rattle.minutes.proofs.Checking.{opening-passes, factors-after-length}
 
@@ -100,11 +100,12 @@ pub kept :
     answer ≡ openingAnswer periods book (length list) → now ≡ openingList periods book list → OpeningPromise periods book answer now
 kept periods book list answered left = rw (answered, left) (list-promise periods book list)
 
--- One period is its minutes from the start.
-one-period : (v k : ℕ) (book : List ℕ) →
-    factorsAfter (v ∷ k ∷ []) book ≡ minutes (scaleOf book) (chainOf book) (ratesAt book v) (members book - 1) k (start (members book - 1))
-unfolding afterPeriods
-one-period v k book = refl
+-- At one rate the factors are those of all the minutes together.
+one-rate : (v : ℕ) (periods book : List ℕ) → AtOneRate v periods →
+    factorsAfter periods book
+    ≡ minutes (scaleOf book) (chainOf book) (ratesAt book v) (members book - 1) (allMinutes periods) (start (members book - 1))
+one-rate v periods book same =
+    periods-at-one-rate (scaleOf book) (chainOf book) (ratesAt book) (members book - 1) periods v (periodCount periods) same
 
 pub opening-promises : OpeningPromises
 opening-promises =
@@ -113,15 +114,17 @@ opening-promises =
       at-a-rate = at-a-rate;
       of-the-list = list-promise;
       none-above-parent = none-above-parent;
-      of-two-lists = λ v k book list other n m i answered other-answered l.
-          let accepted = opening-accepted (v ∷ k ∷ []) book list answered in
-          let same = opening-count (v ∷ k ∷ []) book list answered in
-          let there : i < m = omega (arith, opening-count (v ∷ suc k ∷ []) book other other-answered) in
+      of-two-lists = λ v periods longer book list other n m i same also more answered other-answered l.
+          let accepted = opening-accepted periods book list answered in
+          let count = opening-count periods book list answered in
+          let there : i < m = omega (arith, opening-count longer book other other-answered) in
+          let last = members book - 1 in
+          let here : i ≤ last = omega (arith, members-are book accepted) in
           rw (
-            opening-place (v ∷ k ∷ []) book list answered i l,
-            opening-place (v ∷ suc k ∷ []) book other other-answered i there,
-            one-period v k book,
-            one-period v (suc k) book,
+            opening-place periods book list answered i l,
+            opening-place longer book other other-answered i there,
+            one-rate v periods book same,
+            one-rate v longer book also,
           )
-          (at-a-rate book v k i accepted (within (v ∷ k ∷ []) book list answered i l) .not-lower);
+          (minutes-order (lit< tt) (accepted-sound book accepted) last (last-counts book accepted) (ratesAt book v) _ _ i more here);
     }

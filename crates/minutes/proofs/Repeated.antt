@@ -1,7 +1,8 @@
 -- Minutes one after the other, of any scale and rates. The first minute of a shut room leaves no factor lower than it was, and a minute keeps the
 -- order of two lists; so at one rate no minute does. And each minute keeps every factor below the exact steady one.
-use Prim.Native.Nat.{ℕ, zero, suc, _*_, _≤_, _<_}
-use native.Mathlib.Nat.{le-refl}
+use Prim.Native.Nat.{ℕ, zero, suc, _+_, _*_, _≤_, _<_}
+use native.Mathlib.Nat.{le-refl, le-trans, add-zero, add-suc}
+use native.Mathlib.Decide.{le-ind}
 use native.Mathlib.Omega.{arith}
 use mathlib.Core.Path.{_≡_, refl, ap, _∙_}
 use mathlib.Core.List.{List}
@@ -47,6 +48,18 @@ module _ {scale : ℕ} {chain : Chain} (pos : 0 < scale) (sound : Sound scale ch
   minutes-rise rate zero k le = start-rises rate k le
   minutes-rise rate (suc m) k le = minute-rises rate _ _ (minutes-rise rate m) k le
 
+  -- So after more minutes no factor is lower.
+  pub minutes-order :
+      (rate : ℕ → ℕ) (m more k : ℕ) → m ≤ more → k ≤ last →
+      getD (minutes scale chain rate last m (start last)) k 0 ≤ getD (minutes scale chain rate last more (start last)) k 0
+  minutes-order rate m more k longer le =
+      le-ind
+      (λ j. getD (minutes scale chain rate last m (start last)) k 0 ≤ getD (minutes scale chain rate last j (start last)) k 0)
+      (le-refl _)
+      (λ j h ih. le-trans ih (minutes-rise rate j k le))
+      more
+      longer
+
   -- From the exact steady factors at rates, of members 0 to i, and at rates that are no lower.
   module _ {rate higher : ℕ → ℕ} (rises : (k : ℕ) → rate k ≤ higher k) (i : ℕ) (within : i ≤ last) where
     module _ {P : ℕ} {x : ℕ → ℕ} (exact : ExactFactors scale chain rate i P x) where
@@ -75,6 +88,14 @@ module _ {scale : ℕ} {chain : Chain} (pos : 0 < scale) (sound : Sound scale ch
       record { not-lower = minutes-rise rate k i within; not-above-steady = omega arith }
 
 module _ (scale : ℕ) (chain : Chain) (rate : ℕ → ℕ) (last : ℕ) where
+  -- Some minutes and then some more are their sum.
+  pub minutes-added :
+      (k m : ℕ) (factors : List ℕ) →
+      minutes scale chain rate last m (minutes scale chain rate last k factors) ≡ minutes scale chain rate last (k + m) factors
+  unfolding minutes
+  minutes-added k zero factors = rw (add-zero k) refl
+  minutes-added k (suc m) factors = rw (add-suc k m) (ap (minute scale chain rate last) (minutes-added k m factors))
+
   pub minutes-length : (m : ℕ) (factors : List ℕ) → length factors ≡ suc last → length (minutes scale chain rate last m factors) ≡ suc last
   unfolding minutes
   minutes-length zero factors size = size

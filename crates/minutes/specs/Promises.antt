@@ -1,9 +1,10 @@
 -- What R-5 promises, for any number of minutes.
 use Prim.Native.Nat.{ℕ, suc, _-_, _*_, _≤_, _<_}
 use mathlib.Core.Path.{_≡_}
-use mathlib.Core.List.{List, [], _∷_}
+use mathlib.Core.List.{List}
 use lib.ListN.{length, getD}
 use Rattle.book.specs.Fields.{members, scaleOf}
+use Rattle.book.specs.Sums.{sumBelow}
 use Rattle.book.specs.BookGrounds.{Accepted}
 use Rattle.balance.specs.Rates.{ratesAt}
 use Rattle.balance.specs.Chain.{Chain, chainOf}
@@ -11,7 +12,7 @@ use Rattle.balance.specs.Sound.{Sound}
 use Rattle.balance.specs.Balance.{G}
 use Rattle.balance.specs.Exact.{numerator, denominator}
 use Rattle.balance.specs.declared.FactorAnswer.{FactorAnswer}
-use Rattle.minutes.specs.Minutes.{start, minutes, rateOf}
+use Rattle.minutes.specs.Minutes.{start, minutes, rateOf, minutesOf}
 use Rattle.minutes.specs.Opening.{periodCount, openingAnswer, openingList}
 
 -- A factor of member i that is not higher than the exact steady one, numerator / denominator; multiplied out.
@@ -30,6 +31,13 @@ OpeningPromise periods book answer list =
     (v n i : ℕ) → ((p : ℕ) → p < periodCount periods → v ≤ rateOf periods p) → answer ≡ FactorAnswer.Filled n → i < n →
     NotAboveSteady (scaleOf book) (chainOf book) (ratesAt book v) i (getD list i 0)
 
+-- Periods that are all at rate v, and the minutes of all periods together.
+abbrev pub AtOneRate : ℕ → List ℕ → Type 0
+AtOneRate v periods = (p : ℕ) → p < periodCount periods → rateOf periods p ≡ v
+
+abbrev pub allMinutes : List ℕ → ℕ
+allMinutes periods = sumBelow (periodCount periods) (minutesOf periods)
+
 pub record OpeningPromises : Type 0 where
   -- of the definitions, whichever minute the room is looked at: over any share's scale, any sound chain and any rate of each member
   pub of-any-chain :
@@ -46,10 +54,11 @@ pub record OpeningPromises : Type 0 where
   pub none-above-parent :
       (periods book list : List ℕ) (n i : ℕ) → openingAnswer periods book (length list) ≡ FactorAnswer.Filled n → i < n →
       getD (openingList periods book list) i 0 ≤ G
-  -- of two calls at one rate, the second a minute longer: no place of its list holds less
+  -- of two calls at one rate, in however many periods, the second after no fewer minutes: no place of its list holds less
   pub of-two-lists :
-      (v k : ℕ) (book list other : List ℕ) (n m i : ℕ) →
-      openingAnswer (v ∷ k ∷ []) book (length list) ≡ FactorAnswer.Filled n →
-      openingAnswer (v ∷ suc k ∷ []) book (length other) ≡ FactorAnswer.Filled m →
+      (v : ℕ) (periods longer book list other : List ℕ) (n m i : ℕ) →
+      AtOneRate v periods → AtOneRate v longer → allMinutes periods ≤ allMinutes longer →
+      openingAnswer periods book (length list) ≡ FactorAnswer.Filled n →
+      openingAnswer longer book (length other) ≡ FactorAnswer.Filled m →
       i < n →
-      getD (openingList (v ∷ k ∷ []) book list) i 0 ≤ getD (openingList (v ∷ suc k ∷ []) book other) i 0
+      getD (openingList periods book list) i 0 ≤ getD (openingList longer book other) i 0
