@@ -1,6 +1,6 @@
 -- One member's minute as arithmetic: it rises with the old factor and the inflow, and it stays below an exact steady one.
--- A is 6,000 × T, D the removal of the steady balance and E the divisor of the minute, which is A and at least D. Each fact is multiplied out, added
--- and cancelled.
+-- A is 6,000 × T, D the removal of the steady balance, and E the divisor of the minute, which is no less than A + D.
+-- Each fact is multiplied out, added and cancelled.
 use Prim.Native.Nat.{ℕ, _+_, _-_, _*_, _/_, _^_, _≤_, _<_}
 use native.Mathlib.Nat.{mul-le-mul, mul-le-mul-left, mul-le-mul-right, le-of-mul-le-mul-left, lt-of-le-of-lt, mul-div-le, le-div-iff-mul-le, div-mul-le-self, le-trans}
 use native.Mathlib.Omega.{arith}
