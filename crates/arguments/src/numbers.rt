@@ -1,8 +1,6 @@
 // The numbers that stand as arguments, in digits.
 use libc::STDERR_FILENO;
 use std::num::wrapping_add_usize;
-ghost use mathlib.Core.Path.{_≡_};
-ghost use lib.ListN.{length};
 
 // Stands for every number that does not fit, so that whoever limits a number refuses those too.
 const HIGHEST: u32 = 4_294_967_295;
@@ -13,11 +11,9 @@ enum Word {
 }
 
 // Fills the list with the arguments from `first` on. Where one is not a whole number in digits, a line on standard error has the
-// program's name, the word and the sentence, which says what is wanted, and the answer is false. What the arguments are no proof knows,
-// so no more is said of the list than its length.
-pub fn read_numbers(first: usize, name: &[u8], sentence: &[u8], numbers: &mut [u32]) -> bool
-    ensures { λ _. ⌜ length (now (numbers .exit)) ≡ length (now (numbers .entry)) ⌝ }
-{
+// program's name, the word and the sentence, which says what is wanted, and the answer is false. It has no contract: what the arguments
+// are no proof knows, so there is nothing to hold the answer and the list to.
+pub fn read_numbers(first: usize, name: &[u8], sentence: &[u8], numbers: &mut [u32]) -> bool {
     let mut i = 0;
     while i < numbers.len() {
         let word = read_number(wrapping_add_usize(first, i), name, sentence);

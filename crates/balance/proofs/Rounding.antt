@@ -62,11 +62,15 @@ loss-passes s D K P g x r a inflowX inflowR inflowA pos le exact little lack inf
     let decay = mul-le-mul-right inflowA le in
     lt-of-mul-lt-mul-left D (omega arith)
 
+-- A quotient rounded down keeps the order.
+pub quotient-mono : (d x y : ℕ) → 0 < d → x ≤ y → x / d ≤ y / d
+quotient-mono d x y pos le = le-div-iff-mul-le pos .1 (le-trans (div-mul-le-self x d) le)
+
 -- A larger inflow and a lower removal give no smaller factor.
 pub rounded-mono :
     (s D D' K inflow inflow' : ℕ) → 0 < s → 0 < D → D ≤ D' → inflow' ≤ inflow → inflow' / s * K / D' ≤ inflow / s * K / D
 rounded-mono s D D' K inflow inflow' pos posD le less =
     let q' = inflow' / s in
     let r' = q' * K / D' in
-    let first : q' ≤ inflow / s = le-div-iff-mul-le pos .1 (le-trans (div-mul-le-self inflow' s) less) in
+    let first = quotient-mono s inflow' inflow pos less in
     le-div-iff-mul-le posD .1 (omega (arith, mul-le-mul-left r' le, div-mul-le-self (q' * K) D', mul-le-mul-right K first))

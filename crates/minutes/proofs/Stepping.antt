@@ -2,17 +2,15 @@
 -- A is 6,000 × T, D the removal of the steady balance, and E the divisor of the minute, which is no less than A + D.
 -- Each fact is multiplied out, added and cancelled.
 use Prim.Native.Nat.{ℕ, _+_, _-_, _*_, _/_, _^_, _≤_, _<_}
-use native.Mathlib.Nat.{mul-le-mul, mul-le-mul-left, mul-le-mul-right, le-of-mul-le-mul-left, lt-of-le-of-lt, mul-div-le, le-div-iff-mul-le, div-mul-le-self, le-trans}
+use native.Mathlib.Nat.{mul-le-mul, mul-le-mul-left, mul-le-mul-right, le-of-mul-le-mul-left, lt-of-le-of-lt, mul-div-le}
 use native.Mathlib.Omega.{arith}
 use mathlib.Core.Path.{_≡_, ap}
 use lib.Dec.{lit<}
 use Rattle.book.specs.Limits.{maxHalfLife}
 use Rattle.balance.specs.Rates.{maxRate}
 use Rattle.balance.specs.Balance.{K}
+use Rattle.balance.proofs.Rounding.{quotient-mono}
 use Rattle.minutes.specs.Minutes.{onceAMinute}
-
-divided-mono : (d x y : ℕ) → 0 < d → x ≤ y → x / d ≤ y / d
-divided-mono d x y pos le = le-div-iff-mul-le pos .1 (le-trans (div-mul-le-self x d) le)
 
 pub step-rises :
     (s A K E old more fed fedMore : ℕ) → 0 < s → 0 < E → old ≤ more → fed ≤ fedMore →
@@ -20,8 +18,8 @@ pub step-rises :
 step-rises s A K E old more fed fedMore pos posE older feds =
     let F = fed / s in
     let H = fedMore / s in
-    let whole : F ≤ H = divided-mono s fed fedMore pos feds in
-    divided-mono E _ _ posE (omega (arith, mul-le-mul-left A older, mul-le-mul-left K whole))
+    let whole : F ≤ H = quotient-mono s fed fedMore pos feds in
+    quotient-mono E _ _ posE (omega (arith, mul-le-mul-left A older, mul-le-mul-left K whole))
 
 -- What comes in is below what the steady factor x loses, F being the inflow in whole grains.
 inflow-below :
