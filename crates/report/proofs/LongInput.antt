@@ -4,25 +4,24 @@ use Prim.Native.Nat.{ℕ, _+_, _*_, _^_, _-_, _<_, _≤_}
 use native.Mathlib.Nat.{le-trans}
 use native.Mathlib.Omega.{arith}
 use mathlib.Core.Path.{_≡_, refl, ap, ap₂, sym, _∙_}
-use mathlib.Core.Bool.{Bool, false}
-use mathlib.Core.List.{List, [], _∷_}
+use mathlib.Core.Bool.{false}
+use mathlib.Core.List.{List}
 use lib.Dec.{ltb}
 use lib.ListN.{length, getD, take, length-drop}
 use lib.Seq.{getD-take, getD-drop, length-take-le}
 use borrow.Author.Tests.{le-ltb}
-use Rattle.refusals.specs.Grounds.{ground, firstMet, orElse}
+use Rattle.refusals.specs.Grounds.{firstMet, orElse}
 use Rattle.refusals.specs.declared.Checked.{Checked}
 use Rattle.refusals.specs.declared.Refusal.{Refusal}
 use Rattle.book.specs.Fields.{longestBook}
 use Rattle.book.proofs.LongBook.{groundOfLong, long-book}
 use Rattle.balance.specs.Rates.{maxRate}
-use Rattle.screening.specs.Job.{rate, target, exposureOf, jobLength, bookOf}
-use Rattle.exposure.specs.Exposure.{exposureOutOfRange}
-use Rattle.screening.specs.JobGrounds.{codeUnknown, maxTarget, attenuationOutOfRange, checkedJob}
+use Rattle.screening.specs.Job.{rate, jobLength, bookOf}
+use Rattle.screening.specs.JobGrounds.{checkedJob}
 use Rattle.screening.specs.Screening.{answerFor}
 use Rattle.screening.specs.Private.Checks.{fieldGrounds, readingGrounds}
 use Rattle.screening.proofs.JobChecks.{checked-by-parts}
-use Rattle.screening.proofs.SameBytes.{SameFields, codes-same, target-same, attenuation-same, exposure-same, reading-found-same}
+use Rattle.screening.proofs.SameBytes.{SameFields, fields-found-same, reading-found-same}
 use Rattle.report.specs.Report.{textOf, reportOf, longestJob}
 
 -- Two inputs too long to be accepted, with the same job and the same counts of members and feeds.
@@ -31,16 +30,24 @@ record SameStart (a b : List ℕ) : Type 0 where
   first-long : longestJob < length a
   second-long : longestJob < length b
 
--- What a job's checks find where its book is refused.
-abbrev found : Checked → Checked → Refusal → Checked
-found fields reading refusal = orElse fields (orElse reading (Checked.Refused refusal))
+-- Two inputs that are refused on the same ground.
+pub record RefusedAlike (a b : List ℕ) : Type 0 where
+  pub refusal : Refusal
+  pub first : checkedJob a (bookOf a) ≡ Checked.Refused refusal
+  pub second : checkedJob b (bookOf b) ≡ Checked.Refused refusal
 
-refused-alone :
-    (fields reading : Checked) (refusal : Refusal) (a b c d : List ℕ) →
-    answerFor (found fields reading refusal) a b ≡ answerFor (found fields reading refusal) c d
-refused-alone (Checked.Refused r) reading refusal a b c d = refl
-refused-alone Checked.Passed (Checked.Refused r) refusal a b c d = refl
-refused-alone Checked.Passed Checked.Passed refusal a b c d = refl
+-- The refusal where the last checks refuse: it is theirs if none is earlier.
+abbrev earliest : Checked → Checked → Refusal → Refusal
+earliest (Checked.Refused r) reading last = r
+earliest Checked.Passed (Checked.Refused r) last = r
+earliest Checked.Passed Checked.Passed last = last
+
+refuses :
+    (fields reading : Checked) (last : Refusal) →
+    orElse fields (orElse reading (Checked.Refused last)) ≡ Checked.Refused (earliest fields reading last)
+refuses (Checked.Refused r) reading last = refl
+refuses Checked.Passed (Checked.Refused r) last = refl
+refuses Checked.Passed Checked.Passed last = refl
 
 abbrev fieldsFound : List ℕ → Checked
 fieldsFound job = firstMet (fieldGrounds job)
@@ -48,32 +55,27 @@ fieldsFound job = firstMet (fieldGrounds job)
 abbrev readingFound : List ℕ → Checked
 readingFound job = firstMet (readingGrounds job)
 
--- What the checks of a long input find: nothing here reads past the two counts.
-abbrev foundIn : List ℕ → Checked
-foundIn job = found (fieldsFound job) (readingFound job) (groundOfLong (getD job jobLength 0) (getD job (jobLength + 1) 0))
+-- Why the book of a long input is refused, and why the input is: nothing here reads past the two counts.
+abbrev bookRefusal : List ℕ → Refusal
+bookRefusal job = groundOfLong (getD job jobLength 0) (getD job (jobLength + 1) 0)
+
+abbrev refusalOf : List ℕ → Refusal
+refusalOf job = earliest (fieldsFound job) (readingFound job) (bookRefusal job)
 
 book-long : (size whole : ℕ) → size ≡ whole - jobLength → longestJob < whole → longestBook < size
 book-long size whole e long = omega arith
 
-long-job : (job : List ℕ) → longestJob < length job → checkedJob job (bookOf job) ≡ foundIn job
+long-job : (job : List ℕ) → longestJob < length job → checkedJob job (bookOf job) ≡ Checked.Refused (refusalOf job)
 long-job job long =
     checked-by-parts job (bookOf job)
     ∙ ap
     (λ c. orElse (fieldsFound job) (orElse (readingFound job) c))
     (long-book (bookOf job) (book-long (length (bookOf job)) (length job) (length-drop jobLength job) long)
     ∙ ap₂ (λ n m. Checked.Refused (groundOfLong n m)) (getD-drop jobLength job 0 0) (getD-drop jobLength job 1 0))
+    ∙ refuses (fieldsFound job) (readingFound job) (bookRefusal job)
 
--- Grounds 1 to 6, of what they read.
-abbrev fieldsOf : Bool → Bool → ℕ → ℕ → Bool → Bool → Checked
-fieldsOf short code v t attenuation exposure =
-    firstMet
-    (ground Refusal.JobTooShort short
-    ∷ ground Refusal.CodeUnknown code
-    ∷ ground Refusal.RateTooHigh (ltb maxRate v)
-    ∷ ground Refusal.TargetTooHigh (ltb maxTarget t)
-    ∷ ground Refusal.AttenuationOutOfRange attenuation
-    ∷ ground Refusal.ExposureOutOfRange exposure
-    ∷ [])
+long-enough : (job : List ℕ) → longestJob < length job → ltb (length job) jobLength ≡ false
+long-enough job long = le-ltb (length job) jobLength (omega arith)
 
 module _ {a b : List ℕ} (same : SameStart a b) where
   fields : SameFields a b
@@ -86,32 +88,23 @@ module _ {a b : List ℕ} (same : SameStart a b) where
       (ap₂ (λ x y. x + 2 ^ 8 * y) (same .byte 0 (omega arith)) (same .byte 1 (omega arith)))
       (ap₂ (λ x y. x + 2 ^ 8 * y) (same .byte 2 (omega arith)) (same .byte 3 (omega arith)))
 
-  long-enough : (l : List ℕ) → longestJob < length l → ltb (length l) jobLength ≡ false
-  long-enough l long = le-ltb (length l) jobLength (omega arith)
-
   fields-same : fieldsFound a ≡ fieldsFound b
   fields-same =
-      ap₂ (λ s c. fieldsOf s c (rate a) (target a) (attenuationOutOfRange a) (exposureOutOfRange (exposureOf a)))
-      (long-enough a (same .first-long) ∙ sym (long-enough b (same .second-long)))
-      (codes-same fields)
-      ∙ ap₂ (λ v t. fieldsOf (ltb (length b) jobLength) (codeUnknown b) v t (attenuationOutOfRange a) (exposureOutOfRange (exposureOf a)))
-      rate-same
-      (target-same fields)
-      ∙ ap₂ (fieldsOf (ltb (length b) jobLength) (codeUnknown b) (rate b) (target b))
-      (attenuation-same fields)
-      (ap exposureOutOfRange (exposure-same fields))
+      fields-found-same fields (long-enough a (same .first-long) ∙ sym (long-enough b (same .second-long))) (ap (ltb maxRate) rate-same)
 
-  found-same : foundIn a ≡ foundIn b
-  found-same =
-      ap₂ (λ f r. found f r (groundOfLong (getD a jobLength 0) (getD a (jobLength + 1) 0))) fields-same (reading-found-same fields)
-      ∙ ap₂ (λ n m. found (fieldsFound b) (readingFound b) (groundOfLong n m)) (same .byte jobLength (omega arith)) (same .byte (jobLength + 1) (omega arith))
+  book-same : bookRefusal a ≡ bookRefusal b
+  book-same = ap₂ groundOfLong (same .byte jobLength (omega arith)) (same .byte (jobLength + 1) (omega arith))
 
-  same-report : reportOf a ≡ reportOf b
-  same-report =
-      ap textOf
-      (ap (λ c. answerFor c a (bookOf a)) (long-job a (same .first-long))
-      ∙ refused-alone (fieldsFound a) (readingFound a) (groundOfLong (getD a jobLength 0) (getD a (jobLength + 1) 0)) a (bookOf a) b (bookOf b)
-      ∙ ap (λ c. answerFor c b (bookOf b)) (found-same ∙ sym (long-job b (same .second-long))))
+  refused-alike : RefusedAlike a b
+  refused-alike =
+      record {
+        refusal = refusalOf b;
+        first =
+            long-job a (same .first-long)
+            ∙ ap₂ (λ f r. Checked.Refused (earliest f r (bookRefusal a))) fields-same (reading-found-same fields)
+            ∙ ap (λ last. Checked.Refused (earliest (fieldsFound b) (readingFound b) last)) book-same;
+        second = long-job b (same .second-long);
+      }
 
 first-bytes : (n : ℕ) (job : List ℕ) → longestJob < n → n ≤ length job → SameStart (take n job) job
 first-bytes n job long within =
@@ -121,6 +114,13 @@ first-bytes n job long within =
       second-long = le-trans long within;
     }
 
--- Where the program stops reading, one byte after the longest job, it has read enough.
+-- One byte after the longest job, where a program stops reading, the ground is already that of the whole input.
+pub long-refused : (job : List ℕ) → longestJob < length job → RefusedAlike (take (longestJob + 1) job) job
+long-refused job long = refused-alike (first-bytes (longestJob + 1) job (omega arith) long)
+
+same-report : (a b : List ℕ) → RefusedAlike a b → reportOf a ≡ reportOf b
+same-report a b alike =
+    ap textOf (ap (λ c. answerFor c a (bookOf a)) (alike .first) ∙ ap (λ c. answerFor c b (bookOf b)) (sym (alike .second)))
+
 pub long-input : (job : List ℕ) → longestJob < length job → reportOf (take (longestJob + 1) job) ≡ reportOf job
-long-input job long = same-report (first-bytes (longestJob + 1) job (omega arith) long)
+long-input job long = same-report (take (longestJob + 1) job) job (long-refused job long)

@@ -7,6 +7,7 @@ use Rattle.book.specs.Limits.{maxMembers}
 use Rattle.book.specs.Fields.{longestBook}
 use Rattle.text.specs.Words.{ascii, mostDigits, decimal, lineFeed, line, each}
 use Rattle.refusals.specs.Grounds.{refusalNumber}
+use Rattle.refusals.specs.declared.Refusal.{Refusal}
 use Rattle.screening.specs.Job.{jobLength}
 use Rattle.screening.specs.Screening.{answerOf}
 use Rattle.screening.specs.declared.job.Answer.{Answer}
@@ -44,10 +45,13 @@ figureLines figures =
     ++ line "level " (figures .level)
     ++ workingLines (figures .working)
 
+abbrev pub refusedLine : Refusal → List ℕ
+refusedLine refusal = line "refused " (refusalNumber refusal)
+
 -- One factor line a member, then the figures. A refused job has one line only.
 abbrev pub outcomeLines : Outcome → List ℕ → List ℕ
 outcomeLines (Outcome.Screened figures) factors = factorLines factors ++ figureLines figures
-outcomeLines (Outcome.Refused refusal) factors = line "refused " (refusalNumber refusal)
+outcomeLines (Outcome.Refused refusal) factors = refusedLine refusal
 
 unfoldable pub textOf : Answer → List ℕ
 textOf answer = outcomeLines (answer .outcome) (take (answer .count) (answer .factors))

@@ -1,13 +1,11 @@
 -- What an answer with figures says: the checks passed, and the figures are the definition's. So its verdict keeps demand 3's promise,
 -- and of two jobs that differ in the rate alone the one with the higher rate has no worse verdict.
-use Prim.Native.Nat.{ℕ, _+_, _-_, _≤_, _<_}
+use Prim.Native.Nat.{ℕ, _≤_, _<_}
 use native.Mathlib.Omega.{arith}
-use mathlib.Core.Path.{_≡_, refl, ap, ap₂, sym, subst, _∙_}
+use mathlib.Core.Path.{_≡_, refl, ap, sym, subst, _∙_}
 use mathlib.Core.List.{List}
-use lib.ListN.{getD, drop}
-use lib.Seq.{getD-drop, drop-drop}
+use lib.ListN.{drop}
 use Rattle.refusals.specs.declared.Checked.{Checked}
-use Rattle.reading.specs.Reading.{concentration}
 use Rattle.book.specs.Fields.{coefficient}
 use Rattle.exposure.specs.Totals.{Z}
 use Rattle.exposure.proofs.WithinLimits.{child-years}
@@ -23,7 +21,7 @@ use Rattle.screening.specs.declared.job.Outcome.{Outcome}
 use Rattle.screening.specs.declared.verdict.Criterion.{Criterion}
 use Rattle.screening.specs.declared.verdict.Verdict.{Verdict}
 use Rattle.screening.proofs.JobChecks.{JobPasses, job-passes}
-use Rattle.screening.proofs.SameBytes.{SameFields, criterion-same, for-reading-same}
+use Rattle.screening.proofs.SameBytes.{judged-same}
 use Rattle.screening.proofs.Soundness.{verdict-promise}
 use Rattle.screening.proofs.Falling.{no-worse}
 
@@ -86,20 +84,6 @@ pub kept : (job : List ℕ) {answer : Answer} → answer ≡ answerOf job → An
 kept job e = subst (AnswerPromise job) (sym e) (answer-promise job)
 
 module _ (job other : List ℕ) (same : drop rateLength job ≡ drop rateLength other) where
-  byte-same : (k : ℕ) → rateLength ≤ k → getD job k 0 ≡ getD other k 0
-  byte-same k low =
-      let at : rateLength + (k - rateLength) ≡ k = omega arith in
-      let byte : (l : List ℕ) → getD (drop rateLength l) (k - rateLength) 0 ≡ getD l k 0 =
-      λ l. getD-drop rateLength l (k - rateLength) 0 ∙ ap (λ j. getD l j 0) at
-      in
-      sym (byte job) ∙ ap (λ l. getD l (k - rateLength) 0) same ∙ byte other
-
-  fields-same : SameFields job other
-  fields-same = record { byte = λ k low high. byte-same k low }
-
-  book-same : bookOf job ≡ bookOf other
-  book-same = sym (drop-drop 44 rateLength job) ∙ ap (drop 44) same ∙ drop-drop 44 rateLength other
-
   pub no-worse-answer :
       (figures others : Figures) → rate job ≤ rate other → answerOf job .outcome ≡ Outcome.Screened figures →
       answerOf other .outcome ≡ Outcome.Screened others → badness (others .verdict) ≤ badness (figures .verdict)
@@ -110,7 +94,6 @@ module _ (job other : List ℕ) (same : drop rateLength job ≡ drop rateLength 
       in
       let here =
       verdict-is job figures answered
-      ∙ ap₂ (λ by b. judged by b (rate job) (concentrationOf job)) (criterion-same fields-same) book-same
-      ∙ ap (judged (criterionOf other) book (rate job)) (for-reading-same fields-same concentration)
+      ∙ judged-same job other same (λ by b. judged by b (rate job))
       in
       rw (verdict-is other others other-answered, here) falls

@@ -10,20 +10,15 @@ use Rattle.balance.specs.Balance.{G}
 use Rattle.wide.specs.Value.{modulus}
 use Rattle.reading.specs.Reading.{maxConcentration}
 use Rattle.book.specs.Sums.{sumBelow}
-use Rattle.screening.specs.Verdict.{boundOf, weightOf, verdictOf, cappedQuotient, maxLevel, level}
-use Rattle.screening.specs.Private.Tabled.{numberIn, termIn, assessmentIn, judgedOn}
+use Rattle.screening.specs.Verdict.{Assessment, boundOf, weightOf, raised, verdictOf, verdictAt, cappedQuotient, maxLevel, level}
+use Rattle.screening.specs.AtRate.{numberIn}
+use Rattle.screening.specs.Private.Tabled.{termIn, assessmentIn, judgedOn, Summable, SumsOf, Comparable}
 use Rattle.screening.specs.declared.verdict.Criterion.{Criterion}
 use Rattle.screening.specs.declared.verdict.Judgement.{Judgement}
 use Rattle.screening.specs.declared.verdict.Verdict.{Verdict}
-use Rattle.screening.proofs.Held.{Held, multiple-held}
+use Rattle.screening.proofs.Held.{held, multiple-held}
 use Rattle.screening.proofs.Summing.{sumTop}
 use Rattle.book.proofs.Sums.{sum-same}
-
--- a sum in limbs times C
-scaled-is : {p r sum C : ℕ} → r ≡ sum → r ≤ sumTop → C ≤ maxConcentration → p ≡ r * C % modulus → p ≡ C * sum
-scaled-is {p} {r} {sum} {C} e small few product =
-    let held : Held r sum sumTop = record { is = e; within = rw e at small } in
-    multiple-held product held few (lit< tt) .is ∙ mul-comm sum C
 
 uncapped : (f i : ℕ) → f ≤ G → min (f + 0 * i) G ≡ f
 uncapped f i h = omega arith
@@ -39,21 +34,36 @@ module _ (by : Criterion) (count : ℕ) (coefficients factors : List ℕ) where
   low-sum capped answered =
       answered .0 ∙ sum-same count (λ i l. ap (λ f. weightOf by (numberIn coefficients) i * f) (uncapped (getD factors i 0) i (capped i l)))
 
+  pub sums-are :
+      {lows highs B : ℕ} → Summable by count factors → Answered 0 lows → Answered 2 highs → B ≡ boundOf by →
+      SumsOf (assessmentIn by count coefficients factors) lows highs B
+  sums-are asked lows highs B =
+      record {
+        low-is = low-sum (asked .capped) lows ∙ sym (one-mul _);
+        high-is = highs .0 ∙ sym (one-mul _);
+        bound-is = B;
+        low-fits = lows .1;
+        high-fits = highs .1;
+      }
+
+-- a sum in limbs times C
+pub scaled-is : {p r C : ℕ} → r ≤ sumTop → C ≤ maxConcentration → p ≡ r * C % modulus → p ≡ C * r
+scaled-is {p} {r} {C} fits few product = multiple-held product (held fits) few (lit< tt) .is ∙ mul-comm r C
+
+module _ {a : Assessment} {lows highs B : ℕ} (sums : SumsOf a lows highs B) where
+  pub comparable : {C : ℕ} → C ≤ maxConcentration → Comparable lows highs C
+  comparable few = record { low-fits = sums .low-fits; high-fits = sums .high-fits; concentration = few }
+
+  -- Low and High at C are C times what they are at 1.
+  pub verdict-is : (C : ℕ) {v : Verdict} → v ≡ verdictOf (C * lows) (C * highs) B → v ≡ verdictAt a C
+  verdict-is C given =
+      let low-sum = sumBelow (a .count) (λ i. a .weight i * a .factor i) in
+      let high-sum = sumBelow (a .count) (λ i. a .weight i * raised a i) in
+      rw (given, sums .low-is, sums .high-is, sums .bound-is, one-mul low-sum, one-mul high-sum)
+
   pub judged-is :
-      (C : ℕ) {lows highs L H B l : ℕ} {v : Verdict}
-      → ((i : ℕ) → i < count → getD factors i 0 ≤ G)
-      → C ≤ maxConcentration
-      → Answered 0 lows
-      → Answered 2 highs
-      → L ≡ lows * C % modulus
-      → H ≡ highs * C % modulus
-      → B ≡ boundOf by
-      → v ≡ verdictOf L H B
-      → l ≡ cappedQuotient maxLevel B highs
-      → _≡_ {A = Judgement} (record { verdict = v; level = l }) (judgedOn (assessmentIn by count coefficients factors) C)
+      (C : ℕ) {l : ℕ} {v : Verdict} → v ≡ verdictOf (C * lows) (C * highs) B → l ≡ cappedQuotient maxLevel B highs →
+      _≡_ {A = Judgement} (record { verdict = v; level = l }) (judgedOn a C)
   unfolding level
-  judged-is C capped few lows highs L H B v l =
-      let low = scaled-is (low-sum capped lows) (lows .1) few L in
-      let high = scaled-is (highs .0) (highs .1) few H in
-      let one = highs .0 ∙ sym (one-mul _) in
-      rw (v, l, low, high, B, one)
+  judged-is C v l =
+      rw (verdict-is C v, l, sums .bound-is, sums .high-is)

@@ -15,6 +15,7 @@ pub mod Held
 pub mod Summing
 pub mod Alike
 pub mod Judging
+pub mod AtRate
 pub mod Tabled
 -- The whole job: its checks, its answer, and demand 3.
 pub mod JobChecks

@@ -3,6 +3,8 @@ pub mod JobGrounds
 pub mod Verdict
 pub mod WorkingLevels
 pub mod Screening
+pub mod Admission
+pub mod AtRate
 pub mod CommonFactor
 pub mod WholeHours
 pub mod UnroundedShares

@@ -1,15 +1,20 @@
 // What is worked out for an accepted job.
+use crate::admission::Room;
 use crate::job::Answer;
 use crate::job::Figures;
 use crate::job::Outcome;
 use crate::verdict::Criterion;
+use crate::verdict::Verdict;
 use crate::verdict::judged;
+use crate::verdict::sums_of;
+use crate::verdict::verdict_by;
 use crate::working::alpha_sum;
 use crate::working::working_levels;
 use balance::factors_read;
 use book::COEFFICIENTS;
 use book::MAX_FEEDS;
 use book::MAX_MEMBERS;
+use book::member_count;
 use book::read_table;
 use refusals::Checked;
 ghost use mathlib.Core.Path.{_≡_};
@@ -19,8 +24,9 @@ ghost use Rattle.book.specs.Fields.{coefficient};
 ghost use Rattle.book.specs.BookGrounds.{Accepted};
 ghost use Rattle.book.specs.Table.{ChainHeld};
 ghost use Rattle.balance.specs.Factors.{factorList};
-ghost use Rattle.screening.specs.Screening.{screenedAt};
-ghost use Rattle.screening.specs.Private.Checks.{Screenable};
+ghost use Rattle.screening.specs.Verdict.{verdictAt};
+ghost use Rattle.screening.specs.Screening.{assessmentAt, screenedAt};
+ghost use Rattle.screening.specs.AtRate.{Screenable, numberIn};
 ghost use Rattle.screening.specs.Private.Tabled.{figuresIn, Figurable};
 
 // The factors at a rate, in an array of zeros, of an accepted book whose arrays are lent.
@@ -77,11 +83,37 @@ fn figures_of(
     }
 }
 
-// The answer for a book that is checked, at a rate and a concentration. The book is read once, and its arrays are lent.
-pub(crate) fn screened(by: Criterion, v: u32, concentration: u64, book: &[u8]) -> Answer
+// The verdict at a rate on what a room is judged by and on its concentration, with the members' numbers that are lent. The book's arrays are
+// lent too, so that it is read once for however many rates.
+pub fn verdict_at<'a>(
+    by: Criterion,
+    v: u32,
+    concentration: u64,
+    book: &[u8],
+    half_lives: &'a [u64; MAX_MEMBERS],
+    firsts: &'a [u8; MAX_MEMBERS],
+    shares: &'a [u32; MAX_FEEDS],
+    froms: &'a [u8; MAX_FEEDS],
+    nexts: &'a [u8; MAX_FEEDS],
+    coefficients: &'a [u32; COEFFICIENTS * MAX_MEMBERS],
+) -> Verdict
     requires { ⌜ Screenable by v concentration (now book) ⌝ }
-    ensures { λ r. ⌜ r ≡ screenedAt by (now (book .entry)) (coefficient (now (book .entry))) v concentration ⌝ }
+    requires { ⌜ ChainHeld (now book) (now «half_lives») (now firsts) (now shares) (now froms) (now nexts) ⌝ }
+    ensures { λ r. ⌜ r ≡ verdictAt (assessmentAt by (now (book .entry)) (numberIn (now (coefficients .entry))) v) concentration ⌝ }
 {
+    let list = factor_list(v, book, half_lives, firsts, shares, froms, nexts);
+    let sums = sums_of(by, member_count(book) as usize, coefficients, &list);
+    verdict_by(sums, concentration)
+}
+
+// The answer for a room whose book is checked. The book is read once, and its arrays are lent.
+pub(crate) fn screened(room: Room, book: &[u8]) -> Answer
+    requires { ⌜ Screenable (room .by) (room .rate) (room .concentration) (now book) ⌝ }
+    ensures { λ r. ⌜ r ≡ screenedAt (room .by) (now (book .entry)) (coefficient (now (book .entry))) (room .rate) (room .concentration) ⌝ }
+{
+    let by = room.by;
+    let v = room.rate;
+    let concentration = room.concentration;
     let table = read_table(book);
     let list = factor_list(
         v,

@@ -5,7 +5,7 @@ ghost use Rattle.wide.specs.Value.{value};
 ghost use Rattle.balance.specs.Balance.{G};
 ghost use Rattle.screening.specs.Verdict.{verdictOf, inhalation, submersion, boundOf, cappedQuotient, maxLevel};
 ghost use Rattle.screening.specs.JobGrounds.{maxTarget};
-ghost use Rattle.screening.specs.Private.Tabled.{assessmentIn, judgedOn, Judgeable};
+ghost use Rattle.screening.specs.Private.Tabled.{assessmentIn, judgedOn, Summable, SumsOf, Comparable, Judgeable};
 use crate::weighted::weighted_sum;
 use book::COEFFICIENTS;
 use book::MAX_MEMBERS;
@@ -46,6 +46,13 @@ pub enum Verdict {
     Below,
     Close,
     Above,
+}
+
+// What a verdict and a level are reached on: Low and High at one mBq/m³, and B.
+pub struct Sums {
+    pub low: [u32; 6],
+    pub high: [u32; 6],
+    pub bound: [u32; 6],
 }
 
 pub struct Judgement {
@@ -112,6 +119,34 @@ fn level_of(bound: [u32; 6], high_at_one: [u32; 6]) -> u32
     capped_quotient(bound, high_at_one, MAX_LEVEL)
 }
 
+// Low and High at one mBq/m³, and B, from the members' numbers and factors.
+pub(crate) fn sums_of(
+    by: Criterion,
+    count: usize,
+    coefficients: &[u32; COEFFICIENTS * MAX_MEMBERS],
+    factors: &[u64; MAX_MEMBERS],
+) -> Sums
+    requires { ⌜ Summable by count (now factors) ⌝ }
+    ensures { λ r. ⌜ SumsOf (assessmentIn by count (now (coefficients .entry)) (now (factors .entry))) (value (r .low)) (value (r .high)) (value (r .bound)) ⌝ }
+{
+    let low = weighted_sum(by, count, coefficients, factors, 0);
+    let high = weighted_sum(by, count, coefficients, factors, 2);
+    let bound = bound_of(by);
+    Sums { low, high, bound }
+}
+
+// The verdict at a concentration.
+pub(crate) fn verdict_by(sums: Sums, concentration: u64) -> Verdict
+    requires { ⌜ Comparable (value (sums .low)) (value (sums .high)) concentration ⌝ }
+    ensures { λ r. ⌜ r ≡ verdictOf (concentration * value (sums .low)) (concentration * value (sums .high)) (value (sums .bound)) ⌝ }
+{
+    let low = sums.low;
+    let high = sums.high;
+    let bound = sums.bound;
+    let times = concentration as u32;
+    verdict_of(multiple(low, times), multiple(high, times), bound)
+}
+
 // The verdict at a concentration and the level, from the members' numbers and factors.
 pub(crate) fn judged(
     by: Criterion,
@@ -123,12 +158,11 @@ pub(crate) fn judged(
     requires { ⌜ Judgeable by concentration count (now factors) ⌝ }
     ensures { λ r. ⌜ r ≡ judgedOn (assessmentIn by count (now (coefficients .entry)) (now (factors .entry))) concentration ⌝ }
 {
-    let low = weighted_sum(by, count, coefficients, factors, 0);
-    let high = weighted_sum(by, count, coefficients, factors, 2);
-    let bound = bound_of(by);
-    let times = concentration as u32;
+    let sums = sums_of(by, count, coefficients, factors);
+    let high = sums.high;
+    let bound = sums.bound;
     Judgement {
-        verdict: verdict_of(multiple(low, times), multiple(high, times), bound),
+        verdict: verdict_by(sums, concentration),
         level: level_of(bound, high),
     }
 }

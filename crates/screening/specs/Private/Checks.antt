@@ -1,18 +1,16 @@
 -- The grounds of a job in the parts that are checked one after the other, and what the code asks where they pass.
-use Prim.Native.Nat.{ℕ, _≤_}
+use Prim.Native.Nat.{ℕ}
 use mathlib.Core.List.{List, [], _∷_}
 use lib.ListN.{length}
 use lib.Dec.{ltb}
 use Rattle.refusals.specs.Grounds.{Ground, ground}
 use Rattle.refusals.specs.declared.Refusal.the-variants.{JobTooShort, CodeUnknown, RateTooHigh, TargetTooHigh, AttenuationOutOfRange, ExposureOutOfRange, ReadingUnusable, ConcentrationTooHigh}
-use Rattle.book.specs.BookGrounds.{Accepted}
 use Rattle.balance.specs.Rates.{maxRate}
-use Rattle.reading.specs.Reading.{readingUnusable, concentrationTooHigh, maxConcentration}
+use Rattle.reading.specs.Reading.{readingUnusable, concentrationTooHigh}
 use Rattle.screening.specs.Job.{rate, target, readingOf, forReading, exposureOf, jobLength}
 use Rattle.exposure.specs.Exposure.{exposureOutOfRange}
 use Rattle.screening.specs.JobGrounds.{codeUnknown, maxTarget, attenuationOutOfRange}
 use Rattle.reading.specs.declared.amounts.Intake.{Intake}
-use Rattle.screening.specs.declared.verdict.Criterion.{Criterion}
 
 -- 1 to 6.
 abbrev pub fieldGrounds : List ℕ → List Ground
@@ -37,10 +35,3 @@ abbrev pub concentrationIn : Intake → ℕ
 concentrationIn (Intake.Concentration c) = c
 concentrationIn Intake.TooHigh = 0
 concentrationIn Intake.Unusable = 0
-
--- What is screened: numbers within their limits, and an accepted book.
-pub record Screenable (by : Criterion) (v C : ℕ) (book : List ℕ) : Type 0 where
-  pub target : by .target ≤ maxTarget
-  pub rate : v ≤ maxRate
-  pub concentration : C ≤ maxConcentration
-  pub accepted : Accepted book

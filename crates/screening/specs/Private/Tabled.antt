@@ -1,22 +1,19 @@
 -- What is worked out from the arrays that the code holds of a book: its members' numbers, and their factors.
 use Prim.Native.Nat.{ℕ, _+_, _*_, _^_, _≤_, _<_, min}
+use mathlib.Core.Path.{_≡_}
 use mathlib.Core.List.{List}
 use lib.ListN.{getD}
 use Rattle.book.specs.Limits.{maxMembers}
-use Rattle.book.specs.Fields.{coefficientCount}
 use Rattle.balance.specs.Balance.{G}
 use Rattle.reading.specs.Reading.{maxConcentration}
 use Rattle.screening.specs.JobGrounds.{maxTarget}
-use Rattle.screening.specs.Verdict.{Assessment, weightOf, boundOf, verdictAt, level}
+use Rattle.screening.specs.Verdict.{Assessment, weightOf, boundOf, low, high, verdictAt, level}
+use Rattle.screening.specs.AtRate.{numberIn}
 use Rattle.screening.specs.WorkingLevels.{alphaSum, workingLevels}
 use Rattle.screening.specs.declared.job.Figures.{Figures}
 use Rattle.screening.specs.declared.verdict.Criterion.{Criterion}
 use Rattle.screening.specs.declared.verdict.Judgement.{Judgement}
 use Rattle.screening.specs.declared.working.WorkingLevels.{WorkingLevels}
-
--- A member's five numbers stand together.
-abbrev pub numberIn : List ℕ → ℕ → ℕ → ℕ
-numberIn coefficients i which = getD coefficients (coefficientCount * i + which) 0
 
 -- A member's term of Low (margin 0) and of High (margin 2): the weight times the factor with its margin, capped at G.
 abbrev pub termIn : Criterion → List ℕ → List ℕ → ℕ → ℕ → ℕ
@@ -31,11 +28,28 @@ abbrev pub judgedOn : Assessment → ℕ → Judgement
 judgedOn a C = record { verdict = verdictAt a C; level = level a }
 
 -- What the checks of a job leave of its numbers.
-pub record Judgeable (by : Criterion) (C count : ℕ) (factors : List ℕ) : Type 0 where
+pub record Summable (by : Criterion) (count : ℕ) (factors : List ℕ) : Type 0 where
   pub target : by .target ≤ maxTarget
-  pub concentration : C ≤ maxConcentration
   pub members : count ≤ maxMembers
   pub capped : (i : ℕ) → i < count → getD factors i 0 ≤ G
+
+pub record Judgeable (by : Criterion) (C count : ℕ) (factors : List ℕ) : Type 0 where
+  pub summable : Summable by count factors
+  pub concentration : C ≤ maxConcentration
+
+-- Sums that are an assessment's: Low and High at one mBq/m³, and B.
+pub record SumsOf (a : Assessment) (lows highs bound : ℕ) : Type 0 where
+  pub low-is : lows ≡ low a 1
+  pub high-is : highs ≡ high a 1
+  pub bound-is : bound ≡ a .bound
+  pub low-fits : lows ≤ 2 ^ 117
+  pub high-fits : highs ≤ 2 ^ 117
+
+-- Sums whose products with C do not pass six limbs.
+pub record Comparable (lows highs C : ℕ) : Type 0 where
+  pub low-fits : lows ≤ 2 ^ 117
+  pub high-fits : highs ≤ 2 ^ 117
+  pub concentration : C ≤ maxConcentration
 
 -- What the working levels are worked out from: no more at the rate than at rate 0, C at most its limit, and a divisor W.
 pub record WorkingInRange (atRate atZero C W : ℕ) : Type 0 where

@@ -13,7 +13,7 @@ abbrev read : tie.After-factor-list → tie.After-read-table
 read c = c .before .before .before .before .before .before .before
 
 abbrev start : tie.After-read-table → tie.Start
-start c = c .before .before
+start c = c .before .before .before
 
 factor-list-requires : tie.Need-factor-list-requires
 factor-list-requires c κs =

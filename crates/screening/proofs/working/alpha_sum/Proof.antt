@@ -9,7 +9,7 @@ use lib.ListN.{getD}
 use Rattle.wide.specs.Value.{value}
 use Rattle.book.specs.Sums.{sumBelow}
 use Rattle.screening.specs.WorkingLevels.{alphaWeight}
-use Rattle.screening.specs.Private.Tabled.{numberIn}
+use Rattle.screening.specs.AtRate.{numberIn}
 use Rattle.screening.proofs.Held.{Held}
 use Rattle.screening.proofs.Summing.{termTop, no-terms, next-term, all-terms}
 use Rattle.screening.proofs.working.alpha_sum.Statement.{statement}
