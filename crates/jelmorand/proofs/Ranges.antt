@@ -1,5 +1,5 @@
 -- What is answered fits 63 bits: an accepted book has at most 16 members, the numbers of the refusals are below 32, and a report
--- has at most 922 bytes, a table 33,400.
+-- has at most 922 bytes, a table 33,400, and a lowest rate is at most 100,000.
 use Prim.Native.Nat.{ℕ, _^_, _<_, _≤_}
 use native.Mathlib.Omega.{arith}
 use mathlib.Core.Path.{_≡_, sym, ap, _∙_}
@@ -24,6 +24,9 @@ use Rattle.minutes.proofs.Promised.{opening-accepted, opening-count}
 use Rattle.text.specs.Lent.{lengthWritten}
 use Rattle.report.specs.Report.{reportOf}
 use Rattle.report.proofs.ReportFits.{report-fits}
+use Rattle.airing.specs.Lowest.{lowestOf}
+use Rattle.airing.specs.declared.answer.LowestRate.{LowestRate}
+use Rattle.airing.proofs.Promised.{lowest-promise}
 use Rattle.tables.specs.Answers.{tableAnswer}
 use Rattle.tables.specs.declared.TableAnswer.{TableAnswer}
 use Rattle.tables.proofs.Promised.{table-promises}
@@ -76,3 +79,6 @@ pub table-small :
 table-small rates book list {n = n} answered is =
     let within = table-promises .within rates book (length list) n (sym answered ∙ is) in
     omega arith
+
+pub lowest-small : (job : List ℕ) {answer : LowestRate} {v : ℕ} → answer ≡ lowestOf job → answer ≡ LowestRate.Rate v → v < 2 ^ 63
+lowest-small job {v = v} answered is = omega (arith, lowest-promise job .within v (sym answered ∙ is))

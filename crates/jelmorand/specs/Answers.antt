@@ -1,15 +1,18 @@
 -- The number that a caller in another language gets: the answer itself where it is not negative, and minus document 01's number
 -- of the refusal otherwise.
-use Prim.Native.Nat.{ℕ}
+use Prim.Native.Nat.{ℕ, _+_}
 use mathlib.Core.List.{List}
 use lib.IntN.{ℤ, pos, negℤ}
 use Rattle.refusals.specs.Grounds.{refusalNumber}
 use Rattle.refusals.specs.declared.Refusal.{Refusal}
+use Rattle.balance.specs.Rates.{maxRate}
 use Rattle.balance.specs.Factors.{factorAnswer}
 use Rattle.balance.specs.declared.FactorAnswer.{FactorAnswer}
 use Rattle.minutes.specs.Opening.{openingAnswer}
 use Rattle.text.specs.Lent.{lengthWritten}
 use Rattle.report.specs.Report.{reportOf}
+use Rattle.airing.specs.Lowest.{lowestOf}
+use Rattle.airing.specs.declared.answer.LowestRate.{LowestRate}
 use Rattle.tables.specs.Answers.{tableAnswer}
 use Rattle.tables.specs.declared.TableAnswer.{TableAnswer}
 
@@ -42,3 +45,13 @@ tableNumber rates book room = tabledAs (tableAnswer rates book room)
 -- What the call for periods of airing answers, as the factor call does.
 abbrev pub openingNumber : List ℕ → List ℕ → ℕ → ℤ
 openingNumber periods book room = numberOf (openingAnswer periods book room)
+
+-- The lowest rate, or the refusal; where there is none, one more than the highest rate.
+abbrev pub lowestAs : LowestRate → ℤ
+lowestAs (LowestRate.Rate v) = pos v
+lowestAs LowestRate.None = pos (maxRate + 1)
+lowestAs (LowestRate.Refused refusal) = refusedAs refusal
+
+-- What the call for the lowest rate answers for a job.
+abbrev pub lowestNumber : List ℕ → ℤ
+lowestNumber job = lowestAs (lowestOf job)

@@ -1,5 +1,7 @@
 // The calls that a program in C, Rust or Python makes. Each takes plain numbers and lists and answers one signed number: the answer
 // itself where it is not negative, and minus the number of the refusal otherwise.
+use airing::LowestRate;
+use airing::lowest_rate;
 use balance::FactorAnswer;
 use minutes::factors_after;
 use refusals::refusal_number;
@@ -13,7 +15,10 @@ ghost use Rattle.minutes.specs.Opening.{openingList};
 ghost use Rattle.report.specs.Report.{reportOf};
 ghost use Rattle.text.specs.Lent.{bytesWritten};
 ghost use Rattle.tables.specs.Answers.{tableBuffer};
-ghost use Rattle.jelmorand.specs.Answers.{factorsNumber, reportNumber, tableNumber, openingNumber};
+ghost use Rattle.jelmorand.specs.Answers.{factorsNumber, reportNumber, tableNumber, openingNumber, lowestNumber};
+
+// What the lowest rate is answered as where there is none: one more than the highest rate.
+const NO_RATE: i64 = 100_001;
 
 // The factors of every member at rate `v`, into the first places of `out`; a refusal leaves `out` as it was.
 #[no_mangle]
@@ -61,5 +66,18 @@ pub extern "C" fn jelmorand_factors_after(periods: &[u32], book: &[u8], out: &mu
     match answer {
         FactorAnswer::Filled(filled) => filled as i64,
         FactorAnswer::Refused(ground) => -(refusal_number(ground) as i64),
+    }
+}
+
+// The lowest rate at which the verdict on a job is 'below', or 100,001 where no rate gives it.
+#[no_mangle]
+pub extern "C" fn jelmorand_lowest_rate(job: &[u8]) -> i64
+    ensures { λ r. ⌜ r ≡ lowestNumber (now (job .entry)) ⌝ }
+{
+    let answer = lowest_rate(job);
+    match answer {
+        LowestRate::Rate(rate) => rate as i64,
+        LowestRate::None => NO_RATE,
+        LowestRate::Refused(reason) => -(refusal_number(reason) as i64),
     }
 }
