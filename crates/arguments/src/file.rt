@@ -7,7 +7,7 @@ pub struct Contents {
     pub length: usize,
 }
 
-const UNREAD: Contents = Contents {
+pub(crate) const UNREAD: Contents = Contents {
     read: false,
     length: 0,
 };

@@ -1,7 +1,6 @@
 // Reads a job and its chain book from the file that its argument names, or from standard input where it has none, and
 // writes the report.
 use libc::STDERR_FILENO;
-use libc::STDIN_FILENO;
 use libc::STDOUT_FILENO;
 use report::LONGEST_JOB;
 use report::REPORT_ROOM;
@@ -10,25 +9,12 @@ use report::REPORT_ROOM;
 const ENOUGH: usize = LONGEST_JOB + 1;
 
 fn main() {
-    let words = os::arg_count();
-    if words > 2 {
-        io::write_all(STDERR_FILENO, b"usage: screen FILE, or screen < FILE\n");
-    } else if words == 2 {
-        screen_file();
-    } else {
-        screen_input();
-    }
-}
-
-fn screen_input() {
     let mut input = [0u8; ENOUGH];
-    let n = io::read_full(STDIN_FILENO, &mut input);
-    write_report(&input[..n]);
-}
-
-fn screen_file() {
-    let mut input = [0u8; ENOUGH];
-    let job = arguments::read_file(1, b"screen: the file's name", &mut input);
+    let job = arguments::read_input(
+        b"usage: screen FILE, or screen < FILE\n",
+        b"screen: the file's name",
+        &mut input,
+    );
     if job.read {
         let n = job.length;
         write_report(&input[..n]);
