@@ -158,7 +158,7 @@ def check_opening():
 
 def main():
     texts = sorted(HERE.glob("*.txt"))
-    assert len(texts) == 4
+    assert len(texts) == 5
     for text in texts:
         check(text)
     for gas in GASES:

@@ -1,12 +1,12 @@
-"""Documents 01 and 02 (R-1 to R-5) in exact whole numbers and fractions: the check from outside.
+"""Documents 01 and 02 (R-1 to R-6) in exact whole numbers and fractions: the check from outside.
 
 It follows document 01's order and words, with exposure in quarter hours as R-1 of document 02 has it,
-with R-2's shares of the years for dose, R-3's tables and R-5's rooms minute by minute (R-4 changed no answer),
-and has nothing in common with the proved program.
-A job on standard input gives the text of `screen` on standard output;
-with --check it also asserts, on that job, what demand 3 promises.
+with R-2's shares of the years for dose, R-3's tables, R-5's rooms minute by minute and R-6's lowest rate
+(R-4 changed no answer), and has nothing in common with the proved program.
+A job on standard input gives the text of `screen` on standard output, with --fan that of `fan`;
+with --check it also asserts, on that job, what demand 3 promises, and with both what R-6 does.
 
-    reference.py [--check] < JOB
+    reference.py [--check] [--fan] < JOB
 """
 
 import struct
@@ -455,6 +455,59 @@ def answer(job_bytes):
     return "".join(line + "\n" for line in lines)
 
 
+# ---- How much fan is enough (R-6), and the program `fan` -----------------------------------------
+
+RATES = range(100_001)  # 0 to 100,000
+FEW = 2_000  # how many rates are looked at one by one, as the definition says
+
+
+def verdict_at(v, job, book, C):
+    """The verdict on the job at the rate v; its own rate plays no part."""
+    return verdict(job._replace(v=v), book, C)
+
+
+def first_below(rates, job, book, C):
+    """R-6's definition: the first of the rates, in order, at which the verdict is 'below', or None."""
+    for rate in rates:
+        if verdict_at(rate, job, book, C) == "below":
+            return rate
+    return None
+
+
+def first_below_by_halves(rates, job, book, C):
+    """The same for rates in rising order, looking at few of them.
+
+    F * K / (K + v * T), rounded down, never rises with v, and F never rises where the factors that it is formed from do
+    not. So no reported factor rises with the rate, nor does High: once 'below', the verdict stays 'below'."""
+    before, after = -1, len(rates)  # not 'below' up to place `before`, 'below' from place `after` on
+    while after - before > 1:
+        place = (before + after) // 2
+        if verdict_at(rates[place], job, book, C) == "below":
+            after = place
+        else:
+            before = place
+    return rates[after] if after < len(rates) else None
+
+
+def lowest_rate(job, book, C):
+    """The lowest rate from 0 to 100,000 at which the verdict is 'below', or None.
+
+    The first FEW rates are looked at by the definition. Only where none of them will do are the others halved, since all
+    100,001 would take seconds here."""
+    found = first_below(RATES[:FEW], job, book, C)
+    return first_below_by_halves(RATES[FEW:], job, book, C) if found is None else found
+
+
+def fan_answer(job_bytes):
+    """The text that `fan` writes. The job is checked as a whole job is, its own rate too: checks 1 to 18."""
+    try:
+        job, C, book = read_all(job_bytes)
+    except Refused as refusal:
+        return f"refused {refusal.number}\n"
+    rate = lowest_rate(job, book, C)
+    return f"rate {'none' if rate is None else rate}\n"
+
+
 # ---- Demand 3, asserted on one job --------------------------------------------------------------
 
 
@@ -522,14 +575,47 @@ def check_minutes(v, book, minutes):
     return None
 
 
+# ---- R-6's promise, asserted on one job ----------------------------------------------------------
+
+
+def with_rate(v, job_bytes):
+    """The same job with another rate of its own."""
+    return struct.pack("<I", v) + job_bytes[4:]
+
+
+def some_rates(count):
+    """Some of the rates 0 to count - 1: both ends and what lies between at even distances."""
+    return sorted({place * (count - 1) // 12 for place in range(13)} | {max(count - 2, 0)}) if count > 0 else []
+
+
+def check_lowest(job_bytes, text):
+    """Assert R-6 of a job and of what `fan` has printed for it. Run at the answer the job prints 'below'; every lower rate gives
+    another verdict, at 'none' every rate up to 100,000; and the job's own rate alters nothing. A refusal is that of `screen`."""
+    if text.startswith("refused"):
+        assert text == answer(job_bytes)
+        return
+    rate = None if text == "rate none\n" else int(text.split()[1])
+    assert rate is None or 0 <= rate <= 100_000 and text == f"rate {rate}\n"
+    assert rate is None or "\nverdict below\n" in answer(with_rate(rate, job_bytes))
+    for v in some_rates(100_001 if rate is None else rate):
+        assert "\nverdict below\n" not in answer(with_rate(v, job_bytes)), v
+    for v in {0, 100_000, rate or 0}:
+        job, C, book = read_all(with_rate(v, job_bytes))
+        assert first_below_by_halves(RATES, job, book, C) == rate, v
+
+
 def main():
     answer_help(__doc__)
+    words = sys.argv[1:]
+    if len(set(words)) < len(words) or not set(words) <= {"--check", "--fan"}:
+        sys.exit("usage: reference.py [--check] [--fan] < JOB")
     job_bytes = sys.stdin.buffer.read()
-    if sys.argv[1:] == ["--check"]:
+    text = fan_answer(job_bytes) if "--fan" in words else answer(job_bytes)
+    if "--check" in words:
         check(job_bytes)
-    elif sys.argv[1:]:
-        sys.exit("usage: reference.py [--check] < JOB")
-    sys.stdout.write(answer(job_bytes))
+    if "--check" in words and "--fan" in words:
+        check_lowest(job_bytes, text)
+    sys.stdout.write(text)
 
 
 if __name__ == "__main__":

@@ -2,7 +2,8 @@
 against the reference; R-2's share over every accepted pair of years;
 that a job in whole hours, restated in quarters, keeps its verdict, its level and its refusal;
 R-3's nine characters of a factor against a search through everything that can be printed;
-and R-5's minutes by hand, without rounding, until nothing changes any more, and over a change of rate.
+R-5's minutes by hand, without rounding, until nothing changes any more, and over a change of rate;
+and R-6's lowest rate by hand, at both ends and with other rates in the job.
 
     test_reference.py
 """
@@ -526,6 +527,76 @@ def test_opening_text():
     assert ref.opening_every(300, 1, 1, ref.read_book(book)) == "1 1.000E+00 1.563E-02\n"  # a 64th: a half, which goes up
     assert ref.opening_every(300, 4, 5, ref.read_book(book)) == ""
     assert len(ref.opening_every(18, 1_440, 60, example_book("radon")).splitlines()) == 24
+
+
+# ---- How much fan is enough (R-6) ----------------------------------------------------------------
+
+
+def fanned(book, c, target, v=0):
+    """The text of `fan` for a residential risk and c pCi/m3, so that C is 37 c."""
+    job = pack_job(v=v, unit=1, value=bits(float(c)), target=target) + book
+    text = ref.fan_answer(job)
+    ref.check_lowest(job, text)
+    return text
+
+
+def test_lowest_rows():
+    """Document 01's chain of T' at C = 111,000: 1,610 * 3 * (factor + 2, at most G) against target * G, and the factor is
+    100 G / (100 + v), rounded down. So the sides meet where 100 + v is 483,000 / target; there the verdict is 'close'."""
+    chain = one_feed_book(h=1_000)
+    for target, rate in ((1_610, 201), (1_611, 200), (1_609, 201), (2_415, 101), (2_416, 100), (4_829, 1), (6, 80_401), (5, 96_501)):
+        assert fanned(chain, 3_000, target, v=200) == f"rate {rate}\n", target
+    assert fanned(chain, 3_000, 4_830) == "rate 0\n"  # the factor is G, and High is capped there
+    assert fanned(chain, 3_000, 4) == "rate none\n"  # 100 + v would be 120,750
+    for target, verdict in ((1_610, "close"), (1_609, "above"), (1_611, "below")):
+        assert field(screened(chain, 111_000, target, v=200), "verdict") == verdict
+
+
+def test_lowest_at_both_ends():
+    """With h = 1,000,000 and c = 100 + V the sides meet at V for target 161,000. 'close' there, so that V + 1 is the answer; one
+    more makes V the answer, after 'above'."""
+    chain = one_feed_book(h=1_000_000)
+    for V in (1, 2, 99, 1_000, 99_998, 99_999):
+        assert fanned(chain, 100 + V, 161_000) == f"rate {V + 1}\n"
+        assert fanned(chain, 100 + V, 161_001) == f"rate {V}\n"
+        assert fanned(chain, 100 + V, 160_999) == f"rate {V + 1}\n"
+    assert fanned(chain, 100_100, 161_000) == "rate none\n"  # 100,000 is 'close'
+    assert fanned(chain, 100_100, 160_999) == "rate none\n"  # 100,000 is 'above'
+    assert fanned(chain, 100_100, 161_001) == "rate 100000\n"
+    half = one_feed_book(share=50_000, h=1_000_000)
+    assert fanned(half, 100, 80_500) == "rate 1\n"  # 0 is 'close': half of G, and 2 grains more
+    assert fanned(half, 100, 80_501) == "rate 0\n" and fanned(half, 100, 80_499) == "rate 1\n"
+
+
+def test_lowest_without_daughters():
+    """The parent's factor does not depend on the rate: 0, or none."""
+    parent = parent_book(h=1_000)
+    assert fanned(parent, 1_000, 1_610) == "rate 0\n" and fanned(parent, 1_000, 1_609) == "rate none\n"
+    assert fanned(parent_book(), 1_000, 0) == fanned(parent, 0, 0) == "rate 0\n"
+    assert fanned(parent, 1_000, 0) == "rate none\n"
+
+
+def test_lowest_ignores_own_rate():
+    """The job's own rate is checked (3, in its usual place) and otherwise ignored."""
+    chain = one_feed_book(h=1_000)
+    for v in (0, 199, 200, 201, 202, 99_999, 100_000):
+        assert fanned(chain, 3_000, 1_610, v=v) == "rate 201\n"
+    for v in (100_001, (1 << 32) - 1):
+        assert fanned(chain, 3_000, 1_610, v=v) == "refused 3\n"
+        assert ref.fan_answer(pack_job(v=v, target=10**9 + 1)) == "refused 3\n"
+        assert ref.fan_answer(pack_job(v=v, kind=2)) == "refused 2\n"
+    assert ref.fan_answer(pack_job(v=100_000)) == "refused 9\n" and ref.fan_answer(b"") == "refused 1\n"
+
+
+def test_halves():
+    """The halves against the definition, on any rates in rising order, and on short lists of them."""
+    rng = make_cases.Random(0x48616C766573)
+    for _ in range(150):
+        job, C, book = ref.read_all(make_cases.random_case(rng, rng.between(1, 5)).data())
+        job = job._replace(target=C * ref.high_sum(job._replace(v=rng.spread(0, 300)), book) // ref.B(job._replace(target=1)))
+        start, length = rng.spread(0, 300), rng.between(0, 60)
+        for rates in (range(start, start + length), range(300), range(0, 100_001, 1_000)):
+            assert ref.first_below_by_halves(rates, job, book, C) == ref.first_below(rates, job, book, C)
 
 
 def main():
