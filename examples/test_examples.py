@@ -1,7 +1,7 @@
 #!/usr/bin/env python3
 """Each example's text turns into its bytes and back, and its stored output is what the reference says of it: the report of its job and,
 of the three gases, the table of its book at the rates of source 000's radon table. The README shows what the reference says of a room
-that opens at eight.
+that opens at eight, and of a workroom's fan.
 
 Where the programs are built, they are run too: on each example by its name and from standard input, and on what they cannot read.
 """
@@ -16,6 +16,7 @@ SOURCES = HERE.parent / "docs" / "src"
 REFERENCE = SOURCES / "reference.py"
 PROGRAMS = HERE.parent / "target" / "bin"
 SCREEN = PROGRAMS / "screen"
+FAN = PROGRAMS / "fan"
 TABLE = PROGRAMS / "table"
 OPENING = PROGRAMS / "opening"
 GASES = ("radon", "thoron", "actinon")
@@ -71,21 +72,36 @@ def screened(*words, given=b""):
     return output(SCREEN, *words, given=given)
 
 
+def fanned(*words, given=b""):
+    return output(FAN, *words, given=given)
+
+
 def tabled(*words):
     return output(TABLE, *words)
 
 
-def check_screen(texts):
+def check_jobs(texts, name, run, said):
+    """A program that takes a job: each example by its name and from standard input, an input that is too long, and what cannot be read."""
     for text in texts:
-        job, expected = text.with_suffix(".job"), text.with_suffix(".out").read_bytes()
-        assert screened(job) == (expected, ""), f"{job.name}: is the program the newest? (rt check screen)"
-        assert screened(given=job.read_bytes()) == (expected, ""), job.name
+        job = text.with_suffix(".job")
+        assert run(job) == (said(job.read_bytes()), ""), f"{job.name}: is the program the newest? (rt check {name})"
+        assert run(given=job.read_bytes()) == (said(job.read_bytes()), ""), job.name
+        long = job.read_bytes() + bytes(5_000)
+        assert run(given=long) == (said(long), ""), job.name
     none = HERE / "none.job"
-    assert screened(none) == (b"", f"{none}: No such file or directory\n")
-    assert screened(HERE) == (b"", f"{HERE}: Is a directory\n")
-    assert screened("a" * 5_000) == (b"", "screen: the file's name: File name too long\n")
-    assert screened("one", "two") == (b"", "usage: screen FILE, or screen < FILE\n")
-    assert screened() == (b"refused 1\n", "")
+    assert run(none) == (b"", f"{none}: No such file or directory\n")
+    assert run(HERE) == (b"", f"{HERE}: Is a directory\n")
+    assert run("a" * 5_000) == (b"", f"{name}: the file's name: File name too long\n")
+    assert run("one", "two") == (b"", f"usage: {name} FILE, or {name} < FILE\n")
+    assert run() == (b"refused 1\n", "")
+
+
+def check_screen(texts):
+    check_jobs(texts, "screen", screened, lambda job: reference.answer(job).encode())
+
+
+def check_fan(texts):
+    check_jobs(texts, "fan", fanned, lambda job: reference.fan_answer(job).encode())
 
 
 def check_tables():
@@ -122,8 +138,23 @@ def shown(text):
     return "\n\n" + "".join(f"    {line}\n" for line in text.splitlines()) + "\n" in readme
 
 
+def verdict_and_level(job):
+    lines = reference.answer(job).splitlines(keepends=True)
+    return "".join(line for line in lines if line.startswith(("verdict", "level")))
+
+
+def check_fitter():
+    """What the README shows of the workroom: its verdict, the lowest rate, and the verdict there; and no rate for the radon example."""
+    workroom = (HERE / "workroom.job").read_bytes()
+    assert reference.fan_answer(workroom) == "rate 90\n" and reference.fan_answer((HERE / "radon.job").read_bytes()) == "rate none\n"
+    assert "verdict above\n" in reference.answer(reference.with_rate(89, workroom))
+    for text in (verdict_and_level(workroom), "rate 90\n", verdict_and_level(reference.with_rate(90, workroom)), "rate none\n"):
+        assert shown(text), text
+
+
 def check_readme():
     """The two outputs of `opening` in the README are the reference's."""
+    check_fitter()
     radon = (HERE / "radon.book").read_bytes()
     assert shown(reference.opening_lines([0, 480, 400, 60], radon))
     assert shown(reference.opening_every(400, 60, 15, reference.read_book(radon)))
@@ -175,6 +206,11 @@ def main():
         print("table agrees, with the source's rates and with others")
     else:
         print("table is not built here, so it was not run (rt check table builds it)")
+    if FAN.exists():
+        check_fan(texts)
+        print("fan agrees, with a file's name and from standard input")
+    else:
+        print("fan is not built here, so it was not run (rt check fan builds it)")
     if SCREEN.exists():
         check_screen(texts)
         print("screen agrees, with a file's name and from standard input")

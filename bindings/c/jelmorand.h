@@ -1,11 +1,11 @@
 /* Jelmorand: chain balance and screening of radon, thoron and actinon indoors.
  *
- * Link with libjelmorand.a (x86-64 Linux). All four functions are proved to answer what is said here for every input, on the
+ * Link with libjelmorand.a (x86-64 Linux). All five functions are proved to answer what is said here for every input, on the
  * condition that a C caller must keep and that nothing checks: each pointer is not null, is aligned for its type, and has at
  * least as many elements behind it as the length after it says, also where that length is 0 (any element's address will do
  * then); and what `out` points to overlaps nothing else that is passed. A length is at most PTRDIFF_MAX bytes.
  * None of them allocates, blocks or keeps a pointer, and all may be called from several threads at once. Of the stack a call for
- * factors takes under 2 KB, a report or a table under 3 KB, as measured.
+ * factors takes under 2 KB, a report, a table or a lowest rate under 3 KB, as measured.
  *
  * Every function answers an int64_t: the answer itself where it is not negative, and minus the number of the refusal otherwise,
  * as in  if (answer == -JELMORAND_BOOK_TOO_SHORT).
@@ -42,9 +42,12 @@ extern "C" {
 /* The most minutes that a period has. */
 #define JELMORAND_MAX_MINUTES 1440
 
+/* What jelmorand_lowest_rate answers where no rate gives 'below': one more than the highest rate, so no rate itself. */
+#define JELMORAND_NO_RATE 100001
+
 /* The grounds for refusal, in the order in which they are checked, save that 22 comes straight after 3. A factor call makes
- * checks 3 and 9 to 19, a job 1 to 18, a table 3, 9 to 18, 20 and 21, the factors after periods 3, 22 and 9 to 19. The Rust and
- * Python wrappers say the same sentences. */
+ * checks 3 and 9 to 19, a job 1 to 18, a table 3, 9 to 18, 20 and 21, the factors after periods 3, 22 and 9 to 19, the lowest rate
+ * of a job 1 to 18. The Rust and Python wrappers say the same sentences. */
 enum jelmorand_refusal {
     /* the job has fewer than 48 bytes */
     JELMORAND_JOB_TOO_SHORT = 1,
@@ -145,6 +148,19 @@ int64_t jelmorand_table(const uint32_t *rates, size_t rates_len, const uint8_t *
  * The time that it takes grows with the minutes of all periods together, at most 46,080. */
 int64_t jelmorand_factors_after(const uint32_t *periods, size_t periods_len, const uint8_t *book, size_t book_len, uint64_t *out,
                                 size_t out_len);
+
+/* The lowest ventilation rate at which the verdict on a whole job is 'below'.
+ *
+ * job: the bytes that jelmorand_report takes, 48 and the chain book. Their own rate, the first four, is checked as it is there, and
+ * otherwise ignored.
+ *
+ * Accepted, it answers the rate in hundredths of an air change per hour, 0 to 100,000, or JELMORAND_NO_RATE where no such rate gives
+ * 'below'. With the answered rate written into its first four bytes, lowest byte first, the job's report has the line
+ * `verdict below`; with any lower one it has another verdict.
+ * Refused, it answers minus the refusal's number, the one that the job's report says.
+ *
+ * It takes two to five times as long as a report, as measured. */
+int64_t jelmorand_lowest_rate(const uint8_t *job, size_t job_len);
 
 #ifdef __cplusplus
 }

@@ -1,4 +1,4 @@
-/* Calls all four functions on rows of document 01, on periods and on refusals, and says which answer is wrong, if one is. */
+/* Calls all five functions on rows of document 01, on periods and on refusals, and says which answer is wrong, if one is. */
 #include "jelmorand.h"
 
 #include <stdio.h>
@@ -170,6 +170,51 @@ static void check_verdicts(void)
     }
 }
 
+/* A job at 3.0 pCi/L whose member with a risk has 100 parts of 100 + v at rate v. */
+static size_t fan_job(uint8_t *job, uint32_t v, uint32_t target)
+{
+    return 48 + one_feed(put_job(job, v, target, 3.0), 1000);
+}
+
+static int is_below(const uint8_t *job, size_t length)
+{
+    char out[JELMORAND_REPORT_ROOM + 1] = {0};
+    jelmorand_report(job, length, (uint8_t *)out, JELMORAND_REPORT_ROOM);
+    return strstr(out, "verdict below\n") != NULL;
+}
+
+/* The risk is 483,000 / (100 + v) billionths. Where it is just the target, as at rates 200 and 96,500, the grains that rounding may
+ * have taken keep the verdict from 'below'; at rate 0 none are taken. */
+static void check_lowest_rate(void)
+{
+    static const uint32_t targets[] = {4830, 4829, 1611, 1610, 5};
+    static const uint32_t lowest[] = {0, 1, 200, 201, 96501};
+    static const uint32_t own[] = {0, 200, 100000};
+    uint8_t job[256];
+    for (int i = 0; i < 5; i++) {
+        for (int j = 0; j < 3; j++) {
+            size_t length = fan_job(job, own[j], targets[i]);
+            expect(jelmorand_lowest_rate(job, length) == (int64_t)lowest[i], "a lowest rate");
+        }
+        expect(is_below(job, fan_job(job, lowest[i], targets[i])), "the verdict at the lowest rate");
+        expect(lowest[i] == 0 || !is_below(job, fan_job(job, lowest[i] - 1, targets[i])), "the verdict below the lowest rate");
+    }
+    expect(jelmorand_lowest_rate(job, fan_job(job, 200, 4)) == JELMORAND_NO_RATE, "a lowest rate where there is none");
+    expect(!is_below(job, fan_job(job, 100000, 4)), "the verdict at the highest rate where there is none");
+}
+
+static void check_refused_lowest_rate(void)
+{
+    uint8_t job[256];
+    const size_t length = fan_job(job, 100001, 1611);
+    expect(jelmorand_lowest_rate(job, length) == -JELMORAND_RATE_TOO_HIGH, "refusal 3 of a lowest rate");
+    fan_job(job, 100000, 1611);
+    expect(jelmorand_lowest_rate(job, 0) == -JELMORAND_JOB_TOO_SHORT, "refusal 1 of a lowest rate, of no job");
+    expect(jelmorand_lowest_rate(job, 47) == -JELMORAND_JOB_TOO_SHORT, "refusal 1 of a lowest rate");
+    expect(jelmorand_lowest_rate(job, 48) == -JELMORAND_BOOK_TOO_SHORT, "refusal 9 of a lowest rate");
+    expect(jelmorand_lowest_rate(job, length - 1) == -JELMORAND_BOOK_LENGTH_WRONG, "refusal 11 of a lowest rate");
+}
+
 static int untouched(const uint8_t *out, size_t length)
 {
     for (size_t i = 0; i < length; i++)
@@ -225,6 +270,8 @@ int main(void)
     check_lists_after();
     check_report();
     check_verdicts();
+    check_lowest_rate();
+    check_refused_lowest_rate();
     check_table();
     check_refused_tables();
     puts(failures == 0 ? "smoke: all answers right" : "smoke: failed");

@@ -20,7 +20,7 @@
 #define FACTORS_LIMIT 2048
 #define JOB_LIMIT 4096
 
-enum call { NONE, FACTORS, AFTER, REPORT, TABLE, CALLS };
+enum call { NONE, FACTORS, AFTER, REPORT, TABLE, LOWEST, CALLS };
 
 static _Alignas(64) uint8_t space[SPACE];
 static ucontext_t here, there;
@@ -57,6 +57,9 @@ static void make_call(void)
         break;
     case TABLE:
         answer = jelmorand_table(rates, JELMORAND_MAX_RATES, book, book_length(), text, JELMORAND_TABLE_ROOM);
+        break;
+    case LOWEST:
+        answer = jelmorand_lowest_rate(job, job_length);
         break;
     default:
         break;
@@ -130,7 +133,8 @@ int main(int count, char **words)
         }
     fclose(cases);
     printf("stack: the most over %d recorded jobs: a factor call %zu bytes, factors after periods %zu, "
-           "a whole job with its report %zu, a table of 200 rates %zu\n",
-           jobs, most[FACTORS], most[AFTER], most[REPORT], most[TABLE]);
-    return jobs == 0 || most[FACTORS] >= FACTORS_LIMIT || most[AFTER] >= FACTORS_LIMIT || most[REPORT] >= JOB_LIMIT;
+           "a whole job with its report %zu, a table of 200 rates %zu, a lowest rate %zu\n",
+           jobs, most[FACTORS], most[AFTER], most[REPORT], most[TABLE], most[LOWEST]);
+    return jobs == 0 || most[FACTORS] >= FACTORS_LIMIT || most[AFTER] >= FACTORS_LIMIT || most[REPORT] >= JOB_LIMIT
+        || most[LOWEST] >= JOB_LIMIT;
 }

@@ -37,6 +37,9 @@ MAX_PERIODS = 32
 MAX_MINUTES = 1_440
 """The most minutes that a period has."""
 
+_NO_RATE = 100_001
+"""What the library answers for a lowest rate where there is none: one more than the highest rate."""
+
 GROUNDS = {
     1: "the job has fewer than 48 bytes",
     2: "kind, medium or unit is not a listed value, or the job's zero byte is not zero",
@@ -118,7 +121,7 @@ def _shared_object() -> pathlib.Path:
 
 
 def _library() -> ctypes.CDLL:
-    """The shared object, with the types of its four functions."""
+    """The shared object, with the types of its five functions."""
     library = ctypes.CDLL(str(_shared_object()))
     size, byte_list, room = ctypes.c_size_t, ctypes.c_char_p, ctypes.POINTER(ctypes.c_char)
     number_list, places = ctypes.POINTER(ctypes.c_uint32), ctypes.POINTER(ctypes.c_uint64)
@@ -130,6 +133,8 @@ def _library() -> ctypes.CDLL:
     library.jelmorand_table.restype = ctypes.c_int64
     library.jelmorand_factors_after.argtypes = [number_list, size, byte_list, size, places, size]
     library.jelmorand_factors_after.restype = ctypes.c_int64
+    library.jelmorand_lowest_rate.argtypes = [byte_list, size]
+    library.jelmorand_lowest_rate.restype = ctypes.c_int64
     return library
 
 
@@ -223,6 +228,14 @@ def report(job: Bytes) -> str:
 def screen(job: Bytes) -> Report:
     """The report of a whole job as fields. Raises Refused where the job is refused."""
     return _read(report(job))
+
+
+def lowest_rate(job: Bytes) -> Optional[int]:
+    """The lowest rate at which the verdict on a whole job is 'below', in hundredths of an air change per hour; None where no rate
+    from 0 to 100,000 gives it. The job's own rate is checked, and otherwise ignored. Raises Refused where the job is refused."""
+    data = _plain(job, "job")
+    rate = _answered(_LIBRARY.jelmorand_lowest_rate(data, len(data)))
+    return None if rate == _NO_RATE else rate
 
 
 def _read(text: str) -> Report:

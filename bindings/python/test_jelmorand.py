@@ -1,4 +1,5 @@
-"""The Python module against the recorded cases and tables, the reference, the stored examples, the C header and document 01's rows.
+"""The Python module against the recorded cases, tables and lowest rates, the reference, the stored examples, the C header, its page
+and document 01's rows.
 
     JELMORAND_SO=target/bindings/libjelmorand.so python3 bindings/python/test_jelmorand.py
 """
@@ -24,8 +25,8 @@ from packing import bits, pack_book, pack_feed, pack_job, pack_member
 GRAINS = 1 << 40
 
 
-def recorded_jobs():
-    data = (ROOT / "crates" / "cases" / "stdin").read_bytes()
+def recorded_jobs(program="cases"):
+    data = (ROOT / "crates" / program / "stdin").read_bytes()
     at = 0
     while at < len(data):
         (length,) = struct.unpack_from("<H", data, at)
@@ -278,6 +279,96 @@ class Reports(unittest.TestCase):
         self.assertEqual(jelmorand.screen(job), jelmorand.Report([GRAINS], 37_000, "below", 37_000, None))
 
 
+def fan_line(job):
+    """The line that `fan` writes."""
+    try:
+        rate = jelmorand.lowest_rate(job)
+    except jelmorand.Refused as refused:
+        return f"refused {refused.number}\n"
+    return f"rate {'none' if rate is None else rate}\n"
+
+
+def at_rate(v, job):
+    """The job with this rate for its own."""
+    return struct.pack("<I", v) + job[4:]
+
+
+def is_below(v, job):
+    return "verdict below\n" in jelmorand.report(at_rate(v, job))
+
+
+class LowestRates(unittest.TestCase):
+    def job(self, target, v=0):
+        """At 3.0 pCi/L the member has 100 parts of 100 + v at rate v, so the risk is 483,000 / (100 + v) billionths."""
+        members = [pack_member(1), pack_member(2_495_329_851_600, inhalation_risk=1_000, first=1)]
+        return pack_job(v=v, unit=0, target=target, value=bits(3.0)) + pack_book(members, [pack_feed(100_000, 0)])
+
+    def refused(self, job):
+        with self.assertRaises(jelmorand.Refused) as caught:
+            jelmorand.lowest_rate(job)
+        return caught.exception.number
+
+    def test_rows(self):
+        """Where the risk is just the target, as at rate 200, what rounding may have taken keeps the verdict from 'below'."""
+        for target, rate in ((4_830, 0), (4_829, 1), (1_611, 200), (1_610, 201), (5, 96_501), (4, None)):
+            self.assertEqual(jelmorand.lowest_rate(self.job(target)), rate)
+
+    def test_recorded_answers(self):
+        lines = [fan_line(job) for job in recorded_jobs("fan_cases")]
+        self.assertEqual("".join(lines), (ROOT / "crates" / "fan_cases" / "stdout").read_text("ascii"))
+
+    def check_promise(self, job, rate, chance):
+        first = jelmorand._NO_RATE if rate is None else rate
+        lower = {0, first - 1, chance.randrange(first)} if first else set()
+        self.assertFalse(any(is_below(v, job) for v in lower), (rate, job))
+        self.assertTrue(rate is None or is_below(rate, job), (rate, job))
+
+    def test_promise(self):
+        """Every recorded job: 'below' at the answer and at no lower rate, whatever the job's own; or the report's refusal."""
+        chance = random.Random(6)
+        for job in [*recorded_jobs("fan_cases"), *recorded_jobs()]:
+            line = fan_line(job)
+            if line.startswith("refused"):
+                self.assertEqual(line, jelmorand.report(job))
+                continue
+            self.check_promise(job, jelmorand.lowest_rate(job), chance)
+            for v in (0, 100_000, chance.randint(0, 100_000)):
+                self.assertEqual(fan_line(at_rate(v, job)), line)
+
+    def test_reference(self):
+        """Every recorded job by the reference's verdicts, at the answer and at the rate before it."""
+        for job in recorded_jobs("fan_cases"):
+            try:
+                rate = jelmorand.lowest_rate(job)
+            except jelmorand.Refused as refused:
+                self.assertEqual(f"refused {refused.number}\n", reference.answer(job))
+                continue
+            last = 100_000 if rate is None else rate - 1
+            self.assertTrue(rate is None or "verdict below\n" in reference.answer(at_rate(rate, job)), (rate, job))
+            self.assertFalse(last >= 0 and "verdict below\n" in reference.answer(at_rate(last, job)), (rate, job))
+
+    def test_readme_s_example(self):
+        """The page prints what its lines print."""
+        page = (ROOT / "bindings" / "README.md").read_text("utf-8")
+        lines, printed = re.search(r"<<'END'\n(.*?)\nEND\n```\n\n.*?\n\n(    .*?\n)\n", page, re.DOTALL).groups()
+        environment = dict(os.environ, PYTHONPATH=str(pathlib.Path(__file__).resolve().parent))
+        made = subprocess.run([sys.executable, "-B", "-c", lines], cwd=ROOT, env=environment, capture_output=True, text=True)
+        self.assertEqual(made.stdout, printed.replace("    ", ""), made.stderr)
+
+    def test_refusals(self):
+        self.assertEqual(self.refused(b""), 1)
+        self.assertEqual(self.refused(self.job(5)[:48]), 9)
+        for v in (100_001, 2**32 - 1):
+            self.assertEqual(self.refused(self.job(5, v)), 3)
+
+    def test_kinds_of_bytes(self):
+        for kind in (bytearray, memoryview):
+            self.assertEqual(jelmorand.lowest_rate(kind(self.job(5))), jelmorand.lowest_rate(self.job(5)))
+        for wrong in (8, "job", None, [1, 0]):
+            with self.assertRaises(TypeError):
+                jelmorand.lowest_rate(wrong)
+
+
 class Refusals(unittest.TestCase):
     HEADER = (ROOT / "bindings" / "c" / "jelmorand.h").read_text("ascii")
 
@@ -293,6 +384,7 @@ class Refusals(unittest.TestCase):
         self.assertIn(f"#define JELMORAND_MAX_RATES {jelmorand.MAX_RATES}\n", self.HEADER)
         self.assertIn(f"#define JELMORAND_MAX_PERIODS {jelmorand.MAX_PERIODS}\n", self.HEADER)
         self.assertIn(f"#define JELMORAND_MAX_MINUTES {jelmorand.MAX_MINUTES}\n", self.HEADER)
+        self.assertIn(f"#define JELMORAND_NO_RATE {jelmorand._NO_RATE}\n", self.HEADER)
 
     def test_what_is_raised(self):
         with self.assertRaises(jelmorand.Refused) as caught:

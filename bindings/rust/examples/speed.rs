@@ -1,36 +1,22 @@
 //! Times the factor call and a whole job for many rates, a table of 200, and the factors after the most periods of the most minutes,
 //! beside the plain rewrite, at a book of 16 members and 64 feeds. The rewrite of a job allocates its text, and that of a table
 //! searches for each entry, digit by digit, so their times are no measure of a plain program's, and no ratio is printed there.
+//! A lowest rate is timed beside the whole job.
 #[path = "../tests/common/mod.rs"]
 mod common;
 
 use common::books::book_of;
+use common::lowest_speed::timings;
 use common::random::Random;
+use common::timing::{best, best_of_each};
 use common::{plain, plain_job, plain_minutes, plain_table};
 use std::hint::black_box;
-use std::time::{Duration, Instant};
+use std::time::Duration;
 
 const RATES: u32 = 10_000;
 const ROUNDS: usize = 5;
 const TABLE_ROUNDS: usize = 50;
 const PERIODS_ROUNDS: usize = 30;
-
-fn timed(round: &mut impl FnMut()) -> Duration {
-    let start = Instant::now();
-    round();
-    start.elapsed()
-}
-
-/// The best time of several rounds.
-fn best(rounds: usize, mut round: impl FnMut()) -> Duration {
-    (0..rounds).map(|_| timed(&mut round)).min().expect("there are rounds")
-}
-
-/// The best time of each of two, their rounds in turn, so that what else the machine does falls on both.
-fn best_of_each(rounds: usize, mut one: impl FnMut(), mut other: impl FnMut()) -> (Duration, Duration) {
-    let times = (0..rounds).map(|_| (timed(&mut one), timed(&mut other)));
-    times.reduce(|best, time| (best.0.min(time.0), best.1.min(time.1))).expect("there are rounds")
-}
 
 /// The best time of several rounds over many rates.
 fn over_rates(mut call: impl FnMut(u32)) -> Duration {
@@ -110,9 +96,11 @@ fn time_periods(book: &[u8]) {
 }
 
 fn main() {
-    let book = book_of(&mut Random::fresh("speed"), 16, 64);
+    let mut random = Random::fresh("speed");
+    let book = book_of(&mut random, 16, 64);
     time_factors(&book);
     time_report(&book);
     time_table(&book);
     time_periods(&book);
+    timings(&mut random).iter().for_each(|timing| println!("speed: {timing}"));
 }

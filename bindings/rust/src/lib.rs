@@ -1,6 +1,6 @@
 //! Chain balance and screening of radon, thoron and actinon indoors.
 //!
-//! The four functions behind this crate are proved to answer what their contracts in `crates/jelmorand` say, for every input.
+//! The five functions behind this crate are proved to answer what their contracts in `crates/jelmorand` say, for every input.
 //! What is not proved is this crate: that it declares them as they are, and that it reads a report's text as it should.
 //!
 //! A job is 48 bytes, followed by a chain book; `docs/FORMAT.md` has the bytes. The job here is a gas alone with an inhalation
@@ -31,6 +31,11 @@
 //! assert_eq!((report.concentration, report.level), (37_000, 37_000));
 //! assert_eq!(*report.factors, [1_099_511_627_776]);
 //! assert_eq!(report.working, None);
+//!
+//! // The gas has the same risk at every rate, so either none is too low or, with a target of one billionth less, all are.
+//! assert_eq!(jelmorand::lowest_rate(&job)?, Some(0));
+//! job[8..12].copy_from_slice(&1_609u32.to_le_bytes());
+//! assert_eq!(jelmorand::lowest_rate(&job)?, None);
 //!
 //! let mut factors = [0; jelmorand::MAX_MEMBERS];
 //! assert_eq!(jelmorand::factors(18, &book, &mut factors)?, 1);
@@ -71,6 +76,9 @@ pub const MAX_PERIODS: usize = 32;
 /// The most minutes that a period has.
 pub const MAX_MINUTES: u32 = 1_440;
 
+/// What the library answers for a lowest rate where there is none: one more than the highest rate.
+const NO_RATE: u32 = 100_001;
+
 extern "C" {
     fn jelmorand_factors(v: u32, book: *const u8, book_len: usize, out: *mut u64, out_len: usize) -> i64;
     fn jelmorand_report(job: *const u8, job_len: usize, out: *mut u8, out_len: usize) -> i64;
@@ -90,6 +98,7 @@ extern "C" {
         out: *mut u64,
         out_len: usize,
     ) -> i64;
+    fn jelmorand_lowest_rate(job: *const u8, job_len: usize) -> i64;
 }
 
 /// The answer itself where it is not negative, and minus the refusal's number otherwise: every call answers so.
@@ -129,6 +138,15 @@ pub fn report_into(job: &[u8], out: &mut [u8]) -> Option<usize> {
     // As in `factors`.
     let answer = unsafe { jelmorand_report(job.as_ptr(), job.len(), out.as_mut_ptr(), out.len()) };
     answered(answer).ok().filter(|length| *length != 0)
+}
+
+/// The lowest rate (hundredths of an air change per hour) at which the verdict on a whole job, the job's 48 bytes and its chain book,
+/// is `Verdict::Below`; `None` where no rate from 0 to 100,000 gives it. The job's own rate is checked, and otherwise ignored.
+pub fn lowest_rate(job: &[u8]) -> Result<Option<u32>, Refusal> {
+    // As in `factors`.
+    let answer = answered(unsafe { jelmorand_lowest_rate(job.as_ptr(), job.len()) })?;
+    let rate = u32::try_from(answer).expect("the contracts name no other answer");
+    Ok((rate != NO_RATE).then_some(rate))
 }
 
 /// The table of a chain book at 1 to 200 rates (hundredths of an air change per hour). Each rate has one line, in the list's order:

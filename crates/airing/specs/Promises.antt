@@ -18,6 +18,8 @@ pub record LowestPromise (job : List ℕ) (answer : LowestRate) : Type 0 where
   pub is-below : (v : ℕ) → answer ≡ LowestRate.Rate v → verdictOn job v ≡ Below
   -- at every lower rate it is another
   pub lowest : (v w : ℕ) → answer ≡ LowestRate.Rate v → w < v → ¬ (verdictOn job w ≡ Below)
+  -- and a stronger fan does no harm
+  pub stays-below : (v w : ℕ) → answer ≡ LowestRate.Rate v → v ≤ w → w ≤ maxRate → verdictOn job w ≡ Below
   -- where the answer is none it is 'below' nowhere
   pub nowhere : answer ≡ LowestRate.None → (w : ℕ) → w ≤ maxRate → ¬ (verdictOn job w ≡ Below)
 

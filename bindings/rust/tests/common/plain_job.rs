@@ -109,7 +109,22 @@ fn working(chain: &Chain, factors: &[u64], air: u128) -> Option<(u128, u128)> {
     Some((equilibrium, 10 * air * equilibrium / (37_000 * u128::from(chain.divisor))))
 }
 
-fn accepted(bytes: &[u8]) -> Result<String, u32> {
+/// An accepted job, with its concentration and its chain.
+pub struct Admitted<'a> {
+    job: Job<'a>,
+    air: u128,
+    chain: Chain,
+}
+
+impl Admitted<'_> {
+    /// The verdict at rate v, whatever the job's own.
+    pub fn verdict_at(&self, v: u32) -> &'static str {
+        judged(&self.job, &self.chain, &balance(&self.chain, v), self.air).0
+    }
+}
+
+/// Checks 1 to 18.
+pub fn admitted(bytes: &[u8]) -> Result<Admitted<'_>, u32> {
     if bytes.len() < 48 {
         return Err(1);
     }
@@ -117,6 +132,11 @@ fn accepted(bytes: &[u8]) -> Result<String, u32> {
     refused_field(&job).map_or(Ok(()), Err)?;
     let air = concentration(&job).ok_or(8u32)?;
     let chain = read(&bytes[48..])?;
+    Ok(Admitted { job, air, chain })
+}
+
+fn accepted(bytes: &[u8]) -> Result<String, u32> {
+    let Admitted { job, air, chain } = admitted(bytes)?;
     let factors = balance(&chain, job.number(0, 4) as u32);
     let (verdict, level) = judged(&job, &chain, &factors, air);
     let mut text = String::new();
