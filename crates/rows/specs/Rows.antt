@@ -1,5 +1,6 @@
 -- The rows of document 01 that are marked for the check, restated in quarter hours (document 02, R-1), and those of dose by the guide's
--- fractions (R-2), of a table's entries (R-3) and of minutes from a shut room (R-5): one list, one computation over the definitions.
+-- fractions (R-2), of a table's entries (R-3), of minutes from a shut room (R-5) and of lowest rates (R-6): one list, one computation over the
+-- definitions.
 use Prim.Native.Nat.{ℕ, _*_, _/_}
 use Prim.Native.String.{String}
 use mathlib.Core.Bool.{Bool, true, false, _&&_}
@@ -30,6 +31,8 @@ use Rattle.screening.specs.Verdict.{badness, level}
 use Rattle.book.specs.Sums.{sumBelow}
 use Rattle.screening.specs.WorkingLevels.{microLevels, workingLevels}
 use Rattle.screening.specs.Screening.{figuresAt, answerOf}
+use Rattle.airing.specs.Lowest.{firstRate, lowestOf}
+use Rattle.airing.specs.declared.answer.LowestRate.{LowestRate}
 use Rattle.exposure.specs.declared.groups.Exposure.{Exposure}
 use Rattle.exposure.specs.declared.kind.Kind.{Kind}
 use Rattle.screening.specs.declared.job.Outcome.{Outcome}
@@ -109,6 +112,8 @@ pub data Row : Type 0 where
   aired : List ℕ → List ℕ → List ℕ → Row
   -- these periods are refused with this number, whatever the room
   notAired : List ℕ → ℕ → Row
+  -- the lowest rate at which the verdict on a job is 'below'
+  enough : List ℕ → ℕ → Row
 
 sameList : List ℕ → List ℕ → Bool
 sameList [] [] = true
@@ -138,6 +143,11 @@ levelIs : Outcome → ℕ → Bool
 levelIs (Outcome.Screened figures) n = eqb (figures .level) n
 levelIs (Outcome.Refused refusal) n = false
 
+rateIs : LowestRate → ℕ → Bool
+rateIs (LowestRate.Rate v) n = eqb v n
+rateIs LowestRate.None n = false
+rateIs (LowestRate.Refused refusal) n = false
+
 pub holds : Row → Bool
 holds (factors v book expected) =
     eqb (answerNumber (factorAnswer v book (length expected))) (length expected)
@@ -159,6 +169,7 @@ holds (aired periods book expected) =
 holds (notAired periods n) =
     eqb (answerNumber (openingAnswer periods (oneDaughter 100000) 2)) n
     && sameList (openingList periods (oneDaughter 100000) (7 ∷ 7 ∷ [])) (7 ∷ 7 ∷ [])
+holds (enough job v) = rateIs (lowestOf job) v
 
 pub allHold : List Row → Bool
 allHold [] = true
@@ -207,8 +218,11 @@ marked =
     ∷ notAired (0 ∷ 1441 ∷ []) 22
     ∷ notAired (0 ∷ 1 ∷ 100000 ∷ []) 22
     ∷ notAired (0 ∷ 0 ∷ 100001 ∷ []) 3
+    ∷ enough (riskJob 7 1610 one residential alone) 0
+    ∷ enough (riskJob 0 1611 three residential daughterAtRisk) 200
+    ∷ enough (riskJob 100000 1610 three residential daughterAtRisk) 201
     ∷ []
 
 pub every-marked-row-holds : allHold marked ≡ true
-unfolding marked allHold holds sameList lines decimal exponentUpTo entryOf someRateTooHigh along someBelow someIn bookTooShort countOutOfRange bookLengthWrong headerInvalid memberOutOfRange feedOutOfRange walk occurrences feedNotOnce feedsMisplaced feedNotFromLower sharesOutTooHigh inMemberOrder reported minute minutes afterPeriods periodRateTooHigh periodsOutOfRange nearest exposureOutOfRange whole readingUnusable concentrationTooHigh codeUnknown attenuationOutOfRange sumBelow level workingLevels figuresAt numberIs concentrationIs verdictIs levelIs odd ofBits trailingZeros
+unfolding firstRate rateIs marked allHold holds sameList lines decimal exponentUpTo entryOf someRateTooHigh along someBelow someIn bookTooShort countOutOfRange bookLengthWrong headerInvalid memberOutOfRange feedOutOfRange walk occurrences feedNotOnce feedsMisplaced feedNotFromLower sharesOutTooHigh inMemberOrder reported minute minutes afterPeriods periodRateTooHigh periodsOutOfRange nearest exposureOutOfRange whole readingUnusable concentrationTooHigh codeUnknown attenuationOutOfRange sumBelow level workingLevels figuresAt numberIs concentrationIs verdictIs levelIs odd ofBits trailingZeros
 every-marked-row-holds = refl
