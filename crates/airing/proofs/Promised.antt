@@ -1,5 +1,5 @@
 -- Everything that is promised of the lowest rate: the answer is the first rate at which the verdict is 'below', and what the first is, First says.
--- The bytes are AtRate's.
+-- The bytes are AtRate's and LongInput's.
 use Prim.Native.Nat.{ℕ, suc}
 use native.Mathlib.Omega.{arith}
 use mathlib.Core.Path.{_≡_, refl, ap, sym, subst, _∙_}
@@ -16,11 +16,12 @@ use Rattle.screening.specs.declared.verdict.Verdict.the-variants.{Below, Close,
 use Rattle.screening.proofs.JobChecks.{job-passes}
 use Rattle.airing.specs.Lowest.{isBelow, verdictOn, lowestRate, lowestFor, lowestOf}
 use Rattle.airing.specs.AtRate.{withRate, Reports}
-use Rattle.airing.specs.Promises.{LowestPromise, Promises}
+use Rattle.airing.specs.Promises.{LowestPromise, AiringPromises}
 use Rattle.airing.specs.declared.answer.LowestRate.{LowestRate}
 use Rattle.airing.proofs.First.{First, first-is}
 use Rattle.airing.proofs.Enough.{below-rises}
 use Rattle.airing.proofs.AtRate.{at-rate, own-rate-ignored}
+use Rattle.airing.proofs.LongInput.{long-input}
 
 told-below : (verdict : Verdict) → isBelow verdict ≡ true → verdict ≡ Below
 told-below Below e = refl
@@ -74,5 +75,12 @@ at-answer job v is =
     let passed = rate-passed (checkedJob job (bookOf job)) job v is in
     subst (Reports (withRate v job)) (promise .is-below v is) (at-rate job v passed (promise .within v is))
 
-pub promises : Promises
-promises = record { lowest = lowest-promise; at-rate = at-rate; at-answer = at-answer; own-rate-ignored = own-rate-ignored }
+pub airing-promises : AiringPromises
+airing-promises =
+    record {
+      lowest = lowest-promise;
+      at-rate = at-rate;
+      at-answer = at-answer;
+      own-rate-ignored = own-rate-ignored;
+      long-input = long-input;
+    }

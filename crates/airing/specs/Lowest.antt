@@ -13,7 +13,7 @@ use Rattle.screening.specs.declared.verdict.Verdict.{Verdict}
 use Rattle.screening.specs.declared.verdict.Verdict.the-variants.{Below, Close, Above}
 use Rattle.airing.specs.declared.answer.LowestRate.{LowestRate}
 
--- The first of `v`, `v` + 1, … at which a test holds, of so many; or none.
+-- Of so many rates from `v` on, the first at which a test holds, or none.
 unfoldable pub firstRate : (ℕ → Bool) → ℕ → ℕ → LowestRate
 firstRate test v zero = LowestRate.None
 firstRate test v (suc more) = cond (test v) (LowestRate.Rate v) (firstRate test (suc v) more)

@@ -1,4 +1,4 @@
--- The grounds of a job in the parts that are checked one after the other, and what the code asks where they pass.
+-- The grounds of a job in the parts that are checked one after the other, and the concentration that its intake leaves.
 use Prim.Native.Nat.{ℕ}
 use mathlib.Core.List.{List, [], _∷_}
 use lib.ListN.{length}
