@@ -73,6 +73,17 @@ module _ (book : List ℕ) (accepted : Accepted book) where
   walk_part : (i : ℕ) → i < members book → length (walk book i) + length (feeds_of book i) ≤ feed_count book
   walk_part i l = le_trans (walk_holds i (members book) l).0 walk_length
 
+  -- The bound m + 1 cuts no list short: with any more it is the same list.
+  pub feeds_whole : (i : ℕ) → i < members book → (k : ℕ) → along (next book) (feed_count book + 1 + k) (first_feed book i) ≡ feeds_of book i
+  feeds_whole i l k =
+      along_short
+      (next book)
+      (feed_count book + 1 + k)
+      (feed_count book + 1)
+      (first_feed book i)
+      (omega (arith, walk_part i l))
+      (omega (arith, walk_part i l))
+
   -- So there is a place for each, and the order in the arrays is the walk's.
   in_order_below : (i : ℕ) → i ≤ members book → feeds_in_order book i ≡ walk book i
   unfolding walk feeds_in_order
