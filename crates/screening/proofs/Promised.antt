@@ -16,7 +16,7 @@ use Rattle.screening.specs.Promises.{Demand3, Promises}
 use Rattle.exposure.proofs.Promised.{exposure_promises}
 use Rattle.screening.proofs.OneDenominator.{one_denominator}
 use Rattle.screening.proofs.Soundness.{verdict_promise}
-use Rattle.screening.proofs.Falling.{no_worse, equilibrium_at_most_one}
+use Rattle.screening.proofs.Falling.{no_worse, equilibrium_at_most_one, at_rest}
 use Rattle.verdict.proofs.Level.{level_promise}
 use Rattle.verdict.proofs.CommonFactor.{common_factor}
 use Rattle.verdict.proofs.Promised.{assessment_promises}
@@ -37,6 +37,7 @@ demand_3 =
           no_worse_answer job other same figures others rises answered other-answered;
       level = level_promise;
       equilibrium_at_most_one = λ book coefficient v accepted within some. equilibrium_at_most_one book coefficient v accepted within;
+      at_rest = at_rest;
     }
 
 whole_grounds :

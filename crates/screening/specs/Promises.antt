@@ -72,6 +72,8 @@ pub record Demand3 : Type 0 where
   pub equilibrium_at_most_one :
       (book : List ℕ) (coefficient : ℕ → ℕ → ℕ) (v : ℕ) → Accepted book → v ≤ max_rate → 0 < alpha_at_rest book coefficient →
       equilibrium (alpha_at book coefficient v) (alpha_at_rest book coefficient) ≤ 1000000
+  -- and its divisor is the sum at rate 0
+  pub at_rest : (book : List ℕ) (coefficient : ℕ → ℕ → ℕ) → alpha_at book coefficient 0 ≡ alpha_at_rest book coefficient
 
 pub record Promises : Type 0 where
   pub demand3 : Demand3
