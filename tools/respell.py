@@ -3,11 +3,11 @@
 
 usage: tools/respell.py [--list] [FOLDER]     the top of a checkout, . if none is given; --list prints the names alone
 
-A definition, a law, a record's field or a constructor's label that the repository declares in specs/ or proofs/ and whose name
-has a capital or a dash inside (`scaleOf`, `at-a-rate`) is spelled with underscores (`scale_of`, `at_a_rate`). Types, modules, the
-functions of src/, exported names, strings and the names of goals stay. A name that would fall together with another that the
-same files use is in the list OTHERWISE. In comments, words with a dash are plain English and stay; on pages, what stands between
-backquotes follows. Run once; a second run finds nothing.
+A definition, a law, a record's field or a constructor's label that the repository declares in specs/ or proofs/ and whose
+name has a capital or a dash inside (`scaleOf`, `at-a-rate`) is spelled with underscores (`scale_of`, `at_a_rate`), and so are
+the variables that are listed. Types, modules, the functions of src/, exported names, strings and the names of goals stay. A
+name that would fall together with another that the same files use is in the list OTHERWISE. In comments, words with a dash
+are plain English and stay; on pages, what stands between backquotes follows. A second run changes nothing.
 """
 
 import os
@@ -27,6 +27,12 @@ OTHERWISE = {
     "rounded-up": "rounded_up_is_ceiling",
     "sharesOut": "shares_out_of",
 }
+
+# Variables of definitions and laws with a capital inside.
+VARIABLES = (
+    "agedMore", "atRate", "atZero", "eB", "exactHigher", "fedMore", "fedOnes", "fedX", "inflowA", "inflowR", "inflowX",
+    "posD", "posE", "posP", "reportedHigher", "scaledInflow", "solvedHigher",
+)
 
 NAME = re.compile(r"(?<![\w'’ℕ-])[a-z][\w'ℕ]*(?:-[\w'ℕ]+)*")
 DECLARED = [
@@ -74,7 +80,7 @@ def snake(name):
 
 
 def spelled(top):
-    return {name: snake(name) for name in declared(top) if snake(name) != name}
+    return {name: snake(name) for name in declared(top).union(VARIABLES) if snake(name) != name}
 
 
 def respell(text, names):

@@ -80,17 +80,17 @@ module _ {scale : ℕ} {chain : Chain} {rate : ℕ → ℕ} (pos : 0 < scale) (s
       none_lacking =
           omega (arith, lacking 0 (omega arith), ap (λ t. P * t) reported.parent, ap (λ t. G * t) exact.parent)
 
-      module _ (posP : 0 < P) where
+      module _ (pos_p : 0 < P) where
         losses : (k : ℕ) → k < i → scale * lack (suc k) < inflow_of lack (chain.feeds (suc k)) + 2 * (scale * P)
         losses k h =
             let D = removal chain rate (suc k) in
             let below = sound.from_lower (suc k) (omega arith) in
             let inflows = inflow_le G 1 P x lack r (suc k) (chain.feeds (suc k)) below (λ j m. omega (arith, lacking j (omega arith))) in
-            loss_passes scale D K P G _ _ _ _ _ _ posP (omega arith) (exact.later k h) (little reported k h) (lacking (suc k) h) (omega arith)
+            loss_passes scale D K P G _ _ _ _ _ _ pos_p (omega arith) (exact.later k h) (little reported k h) (lacking (suc k) h) (omega arith)
 
         pub less_than_2i : 0 < i → G * x i < P * r i + 2 * i * P
         less_than_2i later =
             let β = 2 * (scale * P) - 1 in
-            let less : β + 1 ≡ 2 * (scale * P) = sub-add_cancel (omega (arith, mul-pos pos posP)) in
+            let less : β + 1 ≡ 2 * (scale * P) = sub-add_cancel (omega (arith, mul-pos pos pos_p)) in
             let flow = member_bound sound lack β i l (λ k h. omega (arith, losses k h)) in
             omega (arith, lacking i (le_refl i), losses_add scale i P β (lack i) (lack 0) none_lacking less later flow)

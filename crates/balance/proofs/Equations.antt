@@ -24,8 +24,8 @@ pub record ExactFactors (scale : ℕ) (chain : Chain) (rate : ℕ → ℕ) (i P 
   pub later : (k : ℕ) → k < i → scale * removal chain rate (suc k) * x (suc k) ≡ K * inflow_of x (chain.feeds (suc k))
 
 -- An equation of the balance with both sides multiplied by c.
-scaled : (K s D c x y inflow scaledInflow : ℕ) → y ≡ c * x → scaledInflow ≡ c * inflow → s * D * x ≡ K * inflow → s * D * y ≡ K * scaledInflow
-scaled K s D c x y inflow scaledInflow ey ei e =
+scaled : (K s D c x y inflow scaled_inflow : ℕ) → y ≡ c * x → scaled_inflow ≡ c * inflow → s * D * x ≡ K * inflow → s * D * y ≡ K * scaled_inflow
+scaled K s D c x y inflow scaled_inflow ey ei e =
     let member = ap (λ t. s * D * t) ey in
     let feeds = ap (λ t. K * t) ei in
     let both = ap (λ t. c * t) e in

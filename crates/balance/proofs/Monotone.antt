@@ -22,9 +22,9 @@ module _ {scale : ℕ} {chain : Chain} {rate higher : ℕ → ℕ} (pos : 0 < sc
       → (k : ℕ)
       → k ≤ i
       → P * lower k ≤ Q * x k
-  exact_falls_along {P} {Q} {x} {lower} i l exact exactHigher =
-      let parent : P * lower 0 ≤ Q * x 0 = omega (arith, ap (λ t. Q * t) exact.parent, ap (λ t. P * t) exactHigher.parent) in
-      stays_below chain rises pos sound i l P Q P x lower exact parent (λ k h. le_of_eq (exactHigher.later k h))
+  exact_falls_along {P} {Q} {x} {lower} i l exact exact_higher =
+      let parent : P * lower 0 ≤ Q * x 0 = omega (arith, ap (λ t. Q * t) exact.parent, ap (λ t. P * t) exact_higher.parent) in
+      stays_below chain rises pos sound i l P Q P x lower exact parent (λ k h. le_of_eq (exact_higher.later k h))
 
   pub reported_falls_along :
       {r lower : ℕ → ℕ} (i : ℕ)
@@ -34,12 +34,12 @@ module _ {scale : ℕ} {chain : Chain} {rate higher : ℕ → ℕ} (pos : 0 < sc
       → (k : ℕ)
       → k ≤ i
       → lower k ≤ r k
-  reported_falls_along {r} {lower} i l reported reportedHigher =
-      along_chain (λ k. lower k ≤ r k) i (omega (arith, reported.parent, reportedHigher.parent)) passes
+  reported_falls_along {r} {lower} i l reported reported_higher =
+      along_chain (λ k. lower k ≤ r k) i (omega (arith, reported.parent, reported_higher.parent)) passes
     where
       passes : (k : ℕ) → k < i → ((j : ℕ) → j ≤ k → lower j ≤ r j) → lower (suc k) ≤ r (suc k)
       passes k h earlier =
           let below = sound.from_lower (suc k) (omega arith) in
           let inflows = inflow_order 1 1 lower r (suc k) (chain.feeds (suc k)) below (λ j m. omega (arith, earlier j (omega arith))) in
-          rw (reported.later k h, reportedHigher.later k h)
+          rw (reported.later k h, reported_higher.later k h)
           (rounded_mono scale _ _ K _ _ pos (omega arith) (removal_rises chain rises (suc k)) (omega arith))

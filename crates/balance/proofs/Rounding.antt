@@ -16,50 +16,50 @@ rounded_below s D K inflow =
 -- Each by less than one.
 pub rounded_little :
     (s D K inflow : ℕ) → 0 < s → 0 < D → K ≤ D → K * inflow < s * D * (inflow / s * K / D) + 2 * (s * D)
-rounded_little s D K inflow pos posD le =
+rounded_little s D K inflow pos pos_d le =
     let q = inflow / s in
     let first = mul-le-mul_left K (lt-mul-div-succ inflow pos) in
-    let second = mul-le-mul_left s (lt-mul-div-succ (q * K) posD) in
+    let second = mul-le-mul_left s (lt-mul-div-succ (q * K) pos_d) in
     let decay = mul-le-mul_left s le in
     omega arith
 
 -- Decay is part of removal, so a member is at most its inflow.
 pub at_most_inflow : (s D K inflow y : ℕ) → 0 < D → K ≤ D → s * D * y ≤ K * inflow → s * y ≤ inflow
-at_most_inflow s D K inflow y posD le h = le_of_mul-le-mul_left {k = D} (omega (arith, mul-le-mul_right inflow le)) posD
+at_most_inflow s D K inflow y pos_d le h = le_of_mul-le-mul_left {k = D} (omega (arith, mul-le-mul_right inflow le)) pos_d
 
 -- A member r over one whole that loses at least as much to removal as an exact one x over another.
 pub order_passes :
-    (s D D' K p g x r inflowX inflowR : ℕ)
+    (s D D' K p g x r inflow_x inflow_r : ℕ)
     → 0 < s
     → 0 < D
     → D ≤ D'
-    → s * D * x ≡ K * inflowX
-    → s * D' * r ≤ K * inflowR
-    → p * inflowR ≤ g * inflowX
+    → s * D * x ≡ K * inflow_x
+    → s * D' * r ≤ K * inflow_r
+    → p * inflow_r ≤ g * inflow_x
     → p * r ≤ g * x
-order_passes s D D' K p g x r inflowX inflowR pos posD le exact lower inflows =
+order_passes s D D' K p g x r inflow_x inflow_r pos pos_d le exact lower inflows =
     let removed = mul-le-mul_left (s * p * r) le in
     let lowered = mul-le-mul_left p lower in
     let fed = mul-le-mul_left K inflows in
     let whole = ap (λ t. g * t) exact in
-    le_of_mul-le-mul_left {k = s * D} (omega arith) (mul-pos pos posD)
+    le_of_mul-le-mul_left {k = s * D} (omega arith) (mul-pos pos pos_d)
 
 -- What a member lacks, a, is less than what its feeds lack and two grains more.
 pub loss_passes :
-    (s D K P g x r a inflowX inflowR inflowA : ℕ)
+    (s D K P g x r a inflow_x inflow_r inflow_a : ℕ)
     → 0 < P
     → K ≤ D
-    → s * D * x ≡ K * inflowX
-    → K * inflowR < s * D * r + 2 * (s * D)
+    → s * D * x ≡ K * inflow_x
+    → K * inflow_r < s * D * r + 2 * (s * D)
     → a + P * r ≡ g * x
-    → g * inflowX ≤ inflowA + P * inflowR
-    → s * a < inflowA + 2 * (s * P)
-loss_passes s D K P g x r a inflowX inflowR inflowA pos le exact little lack inflows =
+    → g * inflow_x ≤ inflow_a + P * inflow_r
+    → s * a < inflow_a + 2 * (s * P)
+loss_passes s D K P g x r a inflow_x inflow_r inflow_a pos le exact little lack inflows =
     let rounded = mul-lt-mul_of_pos_left little pos in
     let member = ap (λ t. s * D * t) lack in
     let whole = ap (λ t. g * t) exact in
     let fed = mul-le-mul_left K inflows in
-    let decay = mul-le-mul_right inflowA le in
+    let decay = mul-le-mul_right inflow_a le in
     lt_of_mul-lt-mul_left D (omega arith)
 
 -- A quotient rounded down keeps the order.
@@ -69,8 +69,8 @@ quotient_mono d x y pos le = (le-div_iff_mul-le pos).1 (le_trans (div-mul-le_sel
 -- A larger inflow and a lower removal give no smaller factor.
 pub rounded_mono :
     (s D D' K inflow inflow' : ℕ) → 0 < s → 0 < D → D ≤ D' → inflow' ≤ inflow → inflow' / s * K / D' ≤ inflow / s * K / D
-rounded_mono s D D' K inflow inflow' pos posD le less =
+rounded_mono s D D' K inflow inflow' pos pos_d le less =
     let q' = inflow' / s in
     let r' = q' * K / D' in
     let first = quotient_mono s inflow' inflow pos less in
-    (le-div_iff_mul-le posD).1 (omega (arith, mul-le-mul_left r' le, div-mul-le_self (q' * K) D', mul-le-mul_right K first))
+    (le-div_iff_mul-le pos_d).1 (omega (arith, mul-le-mul_left r' le, div-mul-le_self (q' * K) D', mul-le-mul_right K first))

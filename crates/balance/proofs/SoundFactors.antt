@@ -36,12 +36,12 @@ module _ {scale : ℕ} {chain : Chain} (pos : 0 < scale) (sound : Sound scale ch
       {rate higher : ℕ → ℕ} → ((k : ℕ) → rate k ≤ higher k) → (i : ℕ) → i < chain.count → FallPromise scale chain rate higher i
   fall_promise {rate} {higher} rises i l =
       let exact = exact_solves scale chain rate sound i l in
-      let exactHigher = exact_solves scale chain higher sound i l in
+      let exact_higher = exact_solves scale chain higher sound i l in
       let solved = reported_solves scale chain rate sound i l in
-      let solvedHigher = reported_solves scale chain higher sound i l in
+      let solved_higher = reported_solves scale chain higher sound i l in
       record {
-        exact_falls = omega (arith, exact_falls_along pos sound rises i l exact exactHigher i (le_refl i));
-        reported_falls = reported_falls_along pos sound rises i l solved solvedHigher i (le_refl i);
+        exact_falls = omega (arith, exact_falls_along pos sound rises i l exact exact_higher i (le_refl i));
+        reported_falls = reported_falls_along pos sound rises i l solved solved_higher i (le_refl i);
       }
 
   -- For the widths of the code's numbers: no factor is above the parent's, and no inflow above the whole of it.

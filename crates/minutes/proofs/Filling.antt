@@ -36,11 +36,11 @@ inflow_at_most :
     {scale : ℕ} {chain : Chain} {rate x : ℕ → ℕ} {P : ℕ} (last : ℕ) (new : ℕ → ℕ) → 0 < scale → 0 < P → (sound : Sound scale chain) →
     ExactFactors scale chain rate last P x → ((j : ℕ) → j ≤ last → P * new j ≤ G * x j) →
     (k : ℕ) → suc k < chain.count → k ≤ last → inflow_of new (chain.feeds (suc k)) ≤ scale * G
-inflow_at_most {scale} {chain} {rate} {x} {P} last new pos posP sound exact below k l le =
+inflow_at_most {scale} {chain} {rate} {x} {P} last new pos pos_p sound exact below k l le =
     let cut : ExactFactors scale chain rate k P x = record { parent = exact.parent; later = λ j h. exact.later j (omega arith) } in
     let flows = inflow_order P G new x (suc k) (chain.feeds (suc k)) (sound.from_lower (suc k) l) (λ j m. below j (omega arith)) in
     let most = exact_inflow pos sound k (omega arith) cut l in
-    le_of_mul-le-mul_left {k = P} (omega arith) posP
+    le_of_mul-le-mul_left {k = P} (omega arith) pos_p
 
 module _ {book old : List ℕ} (holds : Holds book old) (v : ℕ) where
   abbrev new : ℕ → ℕ

@@ -28,14 +28,14 @@ module _ {scale : ℕ} {chain : Chain} (pos : 0 < scale) (sound : Sound scale ch
       → (k : ℕ)
       → k ≤ i
       → new k ≤ newer k
-  aged_rises {rate} {old} {new} {older} {newer} aged agedMore begins =
-      along_chain (λ k. new k ≤ newer k) i (omega (arith, aged.parent, agedMore.parent)) passes
+  aged_rises {rate} {old} {new} {older} {newer} aged aged_more begins =
+      along_chain (λ k. new k ≤ newer k) i (omega (arith, aged.parent, aged_more.parent)) passes
     where
       passes : (k : ℕ) → k < i → ((j : ℕ) → j ≤ k → new j ≤ newer j) → new (suc k) ≤ newer (suc k)
       passes k h earlier =
           let below = sound.from_lower (suc k) (omega arith) in
           let inflows = inflow_order 1 1 new newer (suc k) (chain.feeds (suc k)) below (λ j m. omega (arith, earlier j (omega arith))) in
-          rw (aged.later k h, agedMore.later k h)
+          rw (aged.later k h, aged_more.later k h)
           (step_rises scale _ K _ (old (suc k)) (older (suc k)) _ _ pos (omega arith) (begins (suc k) h) (omega arith))
 
   pub aged_stays_below :

@@ -42,5 +42,5 @@ alpha_falls n coefficient each =
     let later : suc i < n = omega arith in
     mul-le-mul_left (coefficient (suc i) alpha_weight) (each (suc i) later))
 
-pub equilibrium_of_less : (atRate atZero : ℕ) → atRate ≤ atZero → equilibrium atRate atZero ≤ 1000000
-equilibrium_of_less atRate atZero h = div-le_of_le-mul atZero (omega arith)
+pub equilibrium_of_less : (at_rate at_zero : ℕ) → at_rate ≤ at_zero → equilibrium at_rate at_zero ≤ 1000000
+equilibrium_of_less at_rate at_zero h = div-le_of_le-mul at_zero (omega arith)

@@ -40,11 +40,11 @@ module _ (kind : Kind) (x y B x' y' target count : ℕ) (coefficient : ℕ → �
 
   pub same_verdicts :
       (j k : ℕ) → 0 < j → 0 < k → k * x ≡ j * x' → k * y ≡ j * y' → k * B ≡ j * bound kind target → Unchanged before now
-  same_verdicts j k some-j some-k ex ey eB =
+  same_verdicts j k some-j some-k ex ey e_b =
       in_proportion j k some-j some-k before now
       (record {
         count = refl;
         weight = λ i l. weight_in_proportion j k x y x' y' _ _ ex ey;
         factor = λ i l. refl;
-        bound = eB;
+        bound = e_b;
       })

@@ -53,8 +53,8 @@ pub record Comparable (lows highs C : ℕ) : Type 0 where
 
 -- What the working levels are worked out from: no more at the rate than at rate 0, C at most its limit, and a divisor
 -- W.
-pub record WorkingInRange (atRate atZero C W : ℕ) : Type 0 where
-  pub falls : atRate ≤ atZero
-  pub sums : atZero ≤ 2 ^ 117
+pub record WorkingInRange (at_rate at_zero C W : ℕ) : Type 0 where
+  pub falls : at_rate ≤ at_zero
+  pub sums : at_zero ≤ 2 ^ 117
   pub concentration : C ≤ max_level
   pub some_divisor : 0 < W

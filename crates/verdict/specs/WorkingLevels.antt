@@ -13,7 +13,7 @@ alpha_sum count coefficient factor = sum_below (count - 1) (λ i. coefficient (s
 
 -- Fm, in millionths: the sum at v over the sum at rate 0, rounded down.
 abbrev pub equilibrium : ℕ → ℕ → ℕ
-equilibrium atRate atZero = 1000000 * atRate / atZero
+equilibrium at_rate at_zero = 1000000 * at_rate / at_zero
 
 -- Micro working levels.
 abbrev pub micro_levels : ℕ → ℕ → ℕ → ℕ
@@ -21,6 +21,6 @@ micro_levels C Fm W = 10 * C * Fm / (37000 * W)
 
 -- If the divisor is 0 there is none, and no working level.
 unfoldable pub working_levels : ℕ → ℕ → ℕ → ℕ → WorkingLevels
-working_levels atRate atZero C W =
-    cond (eqb atZero 0) WorkingLevels.None
-    (WorkingLevels.Levels (equilibrium atRate atZero) (micro_levels C (equilibrium atRate atZero) W))
+working_levels at_rate at_zero C W =
+    cond (eqb at_zero 0) WorkingLevels.None
+    (WorkingLevels.Levels (equilibrium at_rate at_zero) (micro_levels C (equilibrium at_rate at_zero) W))

@@ -14,13 +14,13 @@ abbrev pub figures_by : ℕ → Judgement → WorkingLevels → Figures
 figures_by C judged working = record { concentration = C; verdict = judged.verdict; level = judged.level; working = working }
 
 abbrev pub figures_in : Criterion → ℕ → ℕ → ℕ → List ℕ → List ℕ → List ℕ → Figures
-figures_in by C count W coefficients factors atZero =
+figures_in by C count W coefficients factors at_zero =
     figures_by C
     (judged_on (assessment_in by count coefficients factors) C)
-    (working_levels (alpha_in count coefficients factors) (alpha_in count coefficients atZero) C W)
+    (working_levels (alpha_in count coefficients factors) (alpha_in count coefficients at_zero) C W)
 
-pub record Figurable (by : Criterion) (C count W : ℕ) (coefficients factors atZero : List ℕ) : Type 0 where
+pub record Figurable (by : Criterion) (C count W : ℕ) (coefficients factors at_zero : List ℕ) : Type 0 where
   pub judgeable : Judgeable by C count factors
   pub some_members : 1 ≤ count
-  pub falls : alpha_in count coefficients factors ≤ alpha_in count coefficients atZero
+  pub falls : alpha_in count coefficients factors ≤ alpha_in count coefficients at_zero
   pub some_divisor : 0 < W
