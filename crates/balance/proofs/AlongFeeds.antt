@@ -1,7 +1,7 @@
 -- Summing a member's inflow along its feeds: what is summed so far and the inflow of the feeds still ahead make the
 -- whole inflow. A turn moves the next feed from the second part to the first, so no partial sum is above the whole.
-use Prim.Native.Nat.{ℕ, zero, suc, ◌+◌, ◌-◌, ◌*◌, ◌≤◌, ◌<◌}
-use mathlib.Core.Path.{◌≡◌, ◌∙◌, ap}
+use Prim.Native.Nat.{ℕ, zero, suc, ◌+◌, ◌-◌, ◌*◌, ◌<◌}
+use mathlib.Core.Path.{◌≡◌, refl, ◌∙◌, ap}
 use mathlib.Core.List.{List, map}
 use native.Mathlib.Numerals.{add-one}
 use native.Mathlib.Omega.{arith}
@@ -16,6 +16,7 @@ use Rattle.book.proofs.HeldFields.{end_held, share_held, from_held}
 use Rattle.balance.specs.Chain.{feed_of, chain_of}
 use Rattle.balance.specs.Balance.{inflow}
 use Rattle.balance.specs.Inflow.{Fed}
+use Rattle.balance.specs.Private.FeedsBegin.{feeds_begin}
 use Rattle.balance.proofs.BookFeeds.{member_begins, member_ends, member_fits, member_part, place_within, place_from}
 
 -- The inflow of the feeds from place k on, up to `end`.
@@ -37,23 +38,21 @@ module _ {book : List ℕ} {i : ℕ} {factors : List ℕ} (given : Fed book i fa
   fed_place = omega (arith, given.member, ranges.members_count.to)
 
   module _ {ends shares froms : List ℕ} (held : FeedsHeld book ends shares froms) where
-    -- Member i's feeds begin where those of the member before it end.
-    begins : (i : ℕ) → 1 ≤ i → i < members book → get_or ends (i - 1) 0 ≡ length (feeds_in_order book i)
-    begins zero later l = absurd (omega arith)
-    begins (suc i) later l =
-        let e : suc i - 1 ≡ i = omega arith in
-        rw e (end_held book ranges held i (omega arith))
+    begins : (i : ℕ) → i < members book → feeds_begin ends i ≡ length (feeds_in_order book i)
+    unfolding feeds_in_order
+    begins zero l = refl
+    begins (suc i) l = end_held book ranges held i (omega arith)
 
-    start : get_or ends (i - 1) 0 ≡ length (walk book i)
-    start = begins i given.later given.member ∙ member_begins book given.accepted i given.member
+    start : feeds_begin ends i ≡ length (walk book i)
+    start = begins i given.member ∙ member_begins book given.accepted i given.member
 
     stop : get_or ends i 0 ≡ length (walk book i) + length (feeds_of book i)
     stop = end_held book ranges held i given.member ∙ member_ends book given.accepted i given.member
 
     pub ahead_all :
-        ahead book factors (get_or ends i 0) (get_or ends (i - 1) 0) ≡ inflow factors ((chain_of book).feeds i)
+        ahead book factors (get_or ends i 0) (feeds_begin ends i) ≡ inflow factors ((chain_of book).feeds i)
     ahead_all =
-        let many : get_or ends i 0 - get_or ends (i - 1) 0 ≡ length (feeds_of book i) = omega (arith, start, stop) in
+        let many : get_or ends i 0 - feeds_begin ends i ≡ length (feeds_of book i) = omega (arith, start, stop) in
         rw (many, start)
         (ap (λ js. inflow factors (map (feed_of book) js)) (member_part book given.accepted i given.member))
 

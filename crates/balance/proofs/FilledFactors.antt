@@ -5,7 +5,6 @@ use mathlib.Core.Path.{◌≡◌, ◌∙◌}
 use mathlib.Core.List.{List, ◌++◌}
 use native.Mathlib.Nat.{mul-le-mul_right}
 use native.Mathlib.Omega.{arith}
-use lib.Dec.{lit<}
 use lib.ListN.{length, get_or, set, drop}
 use Rattle.book.specs.Limits.{max_half_life}
 use Rattle.book.specs.Fields.{members, scale_of, half_life}
@@ -82,7 +81,6 @@ module _ (book : List ℕ) (accepted : Accepted book) where
       fed =
           record {
             accepted = accepted;
-            later = later;
             member = l;
             enough = omega (arith, h.capacity, h.size);
             fits = word_holds (scale_within book) (inflow_bound i later l h);

@@ -68,7 +68,6 @@ module _ {book old : List ℕ} (holds : Holds book old) (v : ℕ) where
   minute_fed i later l filling =
       record {
         accepted = holds.accepted;
-        later = later;
         member = l;
         enough = omega (arith, filling.capacity, filling.size);
         fits = word_holds (scale_within book) (inflow_fits i later l filling);

@@ -6,11 +6,11 @@ use Rattle.balance.proofs.feeds.inflow_of.Goals as goal
 pub bounds-ends-i : goal.bounds-ends-i
 bounds-ends-i c = omega (arith, fed_place c.requires.fed)
 
-pub bounds-ends-i-2 : goal.bounds-ends-i-2
-bounds-ends-i-2 c = fed_place c.requires.fed
+pub feeds_begin-k-requires : goal.feeds_begin-k-requires
+feeds_begin-k-requires c = fed_place c.requires.fed
 
 pub loop-k-init : goal.loop-k-init
-loop-k-init c = omega (arith, ahead_all c.requires.fed c.requires.feeds_held)
+loop-k-init c = rw c.feeds_begin-k.ensures (omega (arith, ahead_all c.requires.fed c.requires.feeds_held))
 
 pub bounds-shares-k : goal.bounds-shares-k
 bounds-shares-k c = (turn c.requires.fed c.requires.feeds_held c.loop-k.k c.loop-k-test.true).place
