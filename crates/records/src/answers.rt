@@ -1,7 +1,7 @@
-// What is written of each kind of case. Numbers in a case are little-endian.
+// What is written of each kind of case, given its body. Numbers in a body are little-endian.
 ghost use Rattle.std.specs.Prelude.{◌<◌};
 
-use anyhow::{Result, bail};
+use anyhow::Result;
 use balance::{FactorAnswer, factors};
 use minutes::factors_after;
 use numbers::{u16_at, u32_at};
@@ -15,26 +15,16 @@ const PLACE: u64 = 7;
 
 const BYTE: u8 = b'#';
 
-// Kinds: 0 a whole job, as `screen` writes it; 1 a job, as `fan` writes it; 2 the factor call; 3 the table call; 4 the call for periods.
-pub(crate) fn write_answer(rt: &HostRuntime, kind: u8, body: &[u8]) -> Result<()> {
-    match kind {
-        0 => write_report(rt, body),
-        1 => write_lowest(rt, body),
-        2 => write_factors(rt, body),
-        3 => write_table(rt, body),
-        4 => write_opening(rt, body),
-        _ => bail!("recorded: no case is of kind {kind}"),
-    }
-}
-
-fn write_report(rt: &HostRuntime, job: &[u8]) -> Result<()> {
+// A whole job, as `screen` writes it.
+pub fn write_report(rt: &HostRuntime, job: &[u8]) -> Result<()> {
     let mut buffer = [0u8; REPORT_ROOM];
     let n = whole_report(job, &mut buffer);
     rt.stdout().write_all(&buffer[..n])?;
     Ok(())
 }
 
-fn write_lowest(rt: &HostRuntime, job: &[u8]) -> Result<()> {
+// A job, as `fan` writes it.
+pub fn write_lowest(rt: &HostRuntime, job: &[u8]) -> Result<()> {
     let mut buffer = [0u8; RATE_LINE_ROOM];
     let n = rate_line(job, &mut buffer);
     rt.stdout().write_all(&buffer[..n])?;
@@ -42,7 +32,7 @@ fn write_lowest(rt: &HostRuntime, job: &[u8]) -> Result<()> {
 }
 
 // The rate (u32), how many places the lent list has (u16), and the book. Written: the answer, and then every place.
-fn write_factors(rt: &HostRuntime, body: &[u8]) -> Result<()> {
+pub fn write_factors(rt: &HostRuntime, body: &[u8]) -> Result<()> {
     let rate = u32_at(body, 0) as u32;
     let mut list = vec![in rt.alloc(); PLACE; u16_at(body, 4) as usize]?;
     let answer = factors(rate, rest(body, 6), &mut list);
@@ -50,7 +40,7 @@ fn write_factors(rt: &HostRuntime, body: &[u8]) -> Result<()> {
 }
 
 // How many places the lent list has (u16), how many numbers there are (u16), the numbers (u32 each), and the book.
-fn write_opening(rt: &HostRuntime, body: &[u8]) -> Result<()> {
+pub fn write_opening(rt: &HostRuntime, body: &[u8]) -> Result<()> {
     let mut list = vec![in rt.alloc(); PLACE; u16_at(body, 0) as usize]?;
     let count = u16_at(body, 2);
     let periods = numbers(rt, body, 4, count)?;
@@ -58,9 +48,9 @@ fn write_opening(rt: &HostRuntime, body: &[u8]) -> Result<()> {
     write_places(rt, answer, &list)
 }
 
-// How many bytes the lent buffer has (u32), how many rates there are (u16), the rates (u32 each), and the book. Written: the answer, and
-// then every byte of the buffer.
-fn write_table(rt: &HostRuntime, body: &[u8]) -> Result<()> {
+// How many bytes the lent buffer has (u32), how many rates there are (u16), the rates (u32 each), and the book.
+// Written: the answer, and then every byte of the buffer.
+pub fn write_table(rt: &HostRuntime, body: &[u8]) -> Result<()> {
     let mut buffer = vec![in rt.alloc(); BYTE; u32_at(body, 0) as usize]?;
     let count = u16_at(body, 4);
     let rates = numbers(rt, body, 6, count)?;
