@@ -1,0 +1,15 @@
+// Answers every recorded job of standard input as `screen` does, and writes the texts one after the other.
+#![tactic(auto)]
+
+use arguments::ended;
+use records::{answer_all, answer_record, write_report};
+use std::process::ExitCode;
+
+fn main(rt: HostRuntime) -> ExitCode {
+    let answered = answer_all(
+        &rt,
+        rt.stdin(),
+        |rt, input| answer_record(rt, input, write_report),
+    );
+    ended(&rt, answered)
+}
