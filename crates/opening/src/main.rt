@@ -16,6 +16,9 @@ use std::process::ExitCode;
 // bytes are.
 const ENOUGH: usize = LONGEST_BOOK + 1;
 
+// More than the library takes, so that it is the library that refuses a list that is too long.
+const MOST_NUMBERS: usize = 1000;
+
 const USAGE: &str =
     "usage: opening BOOKFILE RATE MINUTES [RATE MINUTES ...], or opening BOOKFILE RATE MINUTES every N";
 
@@ -40,7 +43,11 @@ fn answer(rt: &HostRuntime) -> Result<()> {
         let turns = read_numbers(rt, &words[5..], WANTED_EVERY).context("opening")?;
         return write_every(rt, &period, &turns, &book);
     }
-    let periods = read_numbers(rt, &words[2..], WANTED).context("opening")?;
+    let given = &words[2..];
+    if MOST_NUMBERS < given.len() {
+        bail!("opening: more than 1,000 numbers");
+    }
+    let periods = read_numbers(rt, given, WANTED).context("opening")?;
     write_end(rt, &periods, &book)
 }
 

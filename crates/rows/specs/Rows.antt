@@ -1,14 +1,14 @@
 -- The rows of document 01 that are marked for the check, restated in quarter hours (document 02, R-1), and those of
 -- dose by the guide's fractions (R-2), of a table's entries (R-3), of minutes from a shut room (R-5) and of lowest
 -- rates (R-6): one list, one computation over the definitions.
-use Rattle.std.specs.Prelude.{ℕ, suc, ℤ, pos, negsuc, ◌*◌, ◌/◌, Bool, true, false, ◌&&◌, ◌≡◌, refl, eqb}
+use Rattle.std.specs.Prelude.{ℕ, suc, ℤ, pos, negsuc, ◌*◌, ◌/◌, Bool, true, false, ◌&&◌, ◌≡◌, refl, eqb, nat_le}
 use Rattle.std.specs.Prelude.{List, [], ◌∷◌, ◌++◌, replicate, length}
 use Prim.Native.String.{String}
 use Rattle.std.specs.Float.Ieee.{odd, of_bits}
 use Rattle.std.specs.Float.{binary64}
 use Rattle.std.specs.Int.Count.{count_trailing_zeros}
 use Rattle.book.specs.Fields.{scale_of, along}
-use Rattle.book.specs.Rates.{rates_at}
+use Rattle.book.specs.Rates.{max_rate, rates_at}
 use Rattle.numbers.specs.Tests.{some_below, some_in}
 use Rattle.book.specs.BookGrounds.{book_too_short, count_out_of_range, book_length_wrong, divisor_or_zeros_wrong, member_out_of_range}
 use Rattle.book.specs.BookGrounds.{feed_out_of_range, walk, occurrences, feed_not_once, feeds_misplaced, feed_not_from_lower}
@@ -179,7 +179,7 @@ holds (aired periods book expected) =
 holds (not_aired periods n) =
     refuses (answer_number (periods_answer periods (one_daughter 100000) 2)) n
     && same_list (periods_list periods (one_daughter 100000) (7 ∷ 7 ∷ [])) (7 ∷ 7 ∷ [])
-holds (enough job v) = counts (lowest_number (lowest_of job)) v
+holds (enough job v) = counts (lowest_number (lowest_of job)) v && nat_le v max_rate
 
 pub all_hold : List Row → Bool
 all_hold [] = true

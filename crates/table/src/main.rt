@@ -13,6 +13,9 @@ use tables::{SOURCE_RATES, TABLE_ROOM, TableAnswer, tabulate};
 // One byte more than the longest book that can be accepted: a longer one is refused as its first bytes are.
 const ENOUGH: usize = LONGEST_BOOK + 1;
 
+// More than a table has, so that it is the library that refuses a list that is too long.
+const MOST_RATES: usize = 1000;
+
 const WANTED: &str = "a rate is whole hundredths per hour, so 18 for 0.18";
 
 fn main(rt: HostRuntime) -> ExitCode {
@@ -30,6 +33,9 @@ fn answer(rt: &HostRuntime) -> Result<()> {
     let given: Vec<String> = words.collect(rt.alloc())?;
     if given.is_empty() {
         return write_table(rt, &SOURCE_RATES, &book);
+    }
+    if MOST_RATES < given.len() {
+        bail!("table: more than 1,000 rates");
     }
     let rates = read_numbers(rt, &given, WANTED).context("table")?;
     write_table(rt, &rates, &book)
