@@ -13,4 +13,4 @@ returns c =
     let book = c.args.book.now in
     in_order RateTooHigh (ltb max_rate c.args.v) (book_grounds book)
     (ground_of ListTooShort (ltb c.args.capacity (members book)) ∷ [])
-    c.refuse_if.ensures refl c.or_else.ensures c.check_book-found.ensures cc
+    c.refuse_if.ensures refl c.or_else.ensures c.requires cc
