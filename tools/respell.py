@@ -22,6 +22,7 @@ OTHERWISE = {
     "isBelow": "says_below",
     "minute-at": "minute_is_renewed",
     "not-zero": "never_zero",
+    "onceAMinute": "once_a_minute",
     "reading-grounds": "grounds_of_reading",
     "reported-factor": "reported_at",
     "rounded-up": "rounded_up_is_ceiling",

@@ -25,7 +25,7 @@ use Rattle.balance.proofs.FilledInOrder.{inflow_filled, next_filled, parent_fill
 use Rattle.balance.proofs.Inflow.{inflow_of, inflow_order}
 use Rattle.balance.proofs.MemberOrder.{made_inflow}
 use Rattle.balance.proofs.Numerators.{denominator_pos}
-use Rattle.minutes.specs.Minutes.{once_aminute, new_factor, minute}
+use Rattle.minutes.specs.Minutes.{once_a_minute, new_factor, minute}
 use Rattle.minutes.specs.Private.Holding.{Holds, minute_at}
 use Rattle.minutes.proofs.MinuteEquations.{aged_stays_below}
 use Rattle.minutes.proofs.Minute.{renewing, renewed, renewed_ages}
@@ -77,7 +77,7 @@ module _ {book old : List ℕ} (holds : Holds book old) (v : ℕ) where
   pub factor_renewed :
       (i : ℕ) {now : List ℕ} {F s t was factor : ℕ} → i < members book → Filled new old (members book) i now →
       F ≡ inflow now ((chain_of book).feeds i) → s ≡ scale_of book → t ≡ half_life book i → was ≡ get_or now i 0 →
-      factor ≡ (once_aminute * t * was + K * (F / s)) / (K + (once_aminute + v) * t) →
+      factor ≡ (once_a_minute * t * was + K * (F / s)) / (K + (once_a_minute + v) * t) →
       factor ≡ new_factor (scale_of book) (chain_of book) (rates_at book v) i (get_or old i 0) (inflow now ((chain_of book).feeds i))
   factor_renewed i l filling sums scaled lives held made =
       rw (sums, scaled, lives, held ∙ filled_ahead filling l, rate_is book v i) at made

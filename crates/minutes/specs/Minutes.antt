@@ -4,8 +4,8 @@ use Rattle.balance.specs.Chain.{Chain}
 use Rattle.balance.specs.Balance.{G, K, in_member_order}
 
 -- Once a minute, in hundredths per hour.
-abbrev pub once_aminute : ℕ
-once_aminute = 6000
+abbrev pub once_a_minute : ℕ
+once_a_minute = 6000
 
 -- Member i's new factor, from its old one and its inflow, of which F is made:
 -- (6,000 × T × old factor + K × F) / (K + (6,000 + v) × T), rounded down.
@@ -13,7 +13,7 @@ abbrev pub new_factor : ℕ → Chain → (ℕ → ℕ) → ℕ → ℕ → ℕ 
 new_factor scale chain rate i old fed =
     let T = chain.half_life i in
     let F = fed / scale in
-    (once_aminute * T * old + K * F) / (K + (once_aminute + rate i) * T)
+    (once_a_minute * T * old + K * F) / (K + (once_a_minute + rate i) * T)
 
 -- One minute of members 0 to last, in member order: F is formed from this minute's factors, and member 0 is G always.
 unfoldable pub minute : ℕ → Chain → (ℕ → ℕ) → ℕ → List ℕ → List ℕ

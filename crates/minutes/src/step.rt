@@ -3,7 +3,7 @@ ghost use Rattle.std.specs.Prelude.{◌≡◌, ◌+◌, ◌*◌, ◌/◌, ◌≤
 ghost use Rattle.book.specs.Limits.{max_half_life};
 ghost use Rattle.book.specs.Rates.{max_rate};
 ghost use Rattle.balance.specs.Balance.{K};
-ghost use Rattle.minutes.specs.Minutes.{once_aminute};
+ghost use Rattle.minutes.specs.Minutes.{once_a_minute};
 
 use super::limits::ONCE_A_MINUTE;
 use balance::DECAY;
@@ -15,7 +15,7 @@ pub(crate) fn new_factor(inflow: u64, scale: u64, half_life: u64, v: u32, old: u
     requires scale_positive { 0 < scale }
     requires v_le_max_rate { v ≤ max_rate }
     requires half_life_le_max_half_life { half_life ≤ max_half_life }
-    ensures { result ≡ (once_aminute * half_life * old + K * (inflow / scale)) / (K + (once_aminute + v) * half_life) }
+    ensures { result ≡ (once_a_minute * half_life * old + K * (inflow / scale)) / (K + (once_a_minute + v) * half_life) }
 {
     let held = ONCE_A_MINUTE * half_life;
     let whole = inflow / scale;
