@@ -4,11 +4,17 @@
 #![tactic(auto)]
 
 use anyhow::Result;
-use arguments::ended;
+use arguments::{ended, first_bytes};
 use numbers::u16_at;
-use records::{answer_all, read_body, read_head, write_factors};
-use std::io::Read;
+use records::{factors_case, read_body};
+use std::alloc::Global;
+use std::io::{Read, Write};
 use std::process::ExitCode;
+
+// More cases than any recording has.
+const MOST: u32 = 100_000;
+
+const HEAD: usize = 8;
 
 // No recorded case has a longer list, and no recording more bytes.
 const MOST_PLACES: u64 = 20;
@@ -16,25 +22,35 @@ const MOST_PLACES: u64 = 20;
 const MOST_BYTES: u64 = 65_536;
 
 fn main(rt: HostRuntime) -> ExitCode {
-    let input = rt.stdin().take(MOST_BYTES);
-    let answered = answer_all(&rt, input, answer_next);
+    let answered = answer_all(&rt);
     ended(&rt, answered)
 }
 
-// Answers the next case; false where there is none that is whole and within the limits.
-fn answer_next<R: Read>(rt: &HostRuntime, input: &mut R) -> Result<bool> {
-    let Some(head) = read_head(input)? else {
-        return Ok(false);
-    };
-    let places = u16_at(&head, 4);
-    let rest = u16_at(&head, 6);
-    if MOST_PLACES < places {
-        return Ok(false);
+fn answer_all(rt: &HostRuntime) -> Result<()> {
+    let mut input = rt.stdin().take(MOST_BYTES);
+    for _ in 0..MOST {
+        let Some(body) = next_body(rt.alloc(), &mut input)? else {
+            break;
+        };
+        let text = factors_case(rt.alloc(), &body)?;
+        rt.stdout().write_all(&text)?;
     }
-    let body = read_body(rt.alloc(), input, &head[..6], rest)?;
-    if body.len() < 6 + rest as usize {
-        return Ok(false);
+    Ok(())
+}
+
+// The body of the next case; none where there is none that is whole and within the limits.
+fn next_body<R: Read>(alloc: Global, input: &mut R) -> Result<Option<Vec<u8>>> {
+    let head = first_bytes(alloc, input.by_ref(), HEAD)?;
+    if head.len() < HEAD {
+        return Ok(None);
     }
-    write_factors(rt, &body)?;
-    Ok(true)
+    let book = u16_at(&head, 6) as usize;
+    if MOST_PLACES < u16_at(&head, 4) {
+        return Ok(None);
+    }
+    let body = read_body(alloc, input, &head[..6], book)?;
+    if body.len() < 6 + book {
+        return Ok(None);
+    }
+    Ok(Some(body))
 }

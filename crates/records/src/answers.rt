@@ -1,13 +1,16 @@
 // What is written of each kind of case, given its body. Numbers in a body are little-endian.
-ghost use Rattle.std.specs.Prelude.{◌<◌};
+ghost use Rattle.std.specs.Prelude.{◌≡◌, ◌<◌, ◌++◌, drop, length, IfOk, OnOk};
+ghost use Rattle.report.specs.Report.{report_of};
+ghost use Rattle.report.specs.RateLine.{rate_line};
+ghost use Rattle.records.specs.Cases.{factors_case, opening_case, table_case, numbers_at, list_line, counted, measured};
 
-use anyhow::Result;
+use super::words::{push_number, push_places};
 use balance::{FactorAnswer, factors};
 use minutes::factors_after;
 use numbers::{u16_at, u32_at};
 use refusals::refusal_number;
 use report::{RATE_LINE_ROOM, REPORT_ROOM, rate_line, whole_report};
-use std::io::Write;
+use std::alloc::{AllocError, Global};
 use tables::{TableAnswer, tabulate};
 
 // What every place of a lent list, or of a lent buffer, holds before a call.
@@ -16,84 +19,106 @@ const PLACE: u64 = 7;
 const BYTE: u8 = b'#';
 
 // A whole job, as `screen` writes it.
-pub fn write_report(rt: &HostRuntime, job: &[u8]) -> Result<()> {
+pub fn report_case(alloc: Global, job: &[u8]) -> Result<Vec<u8>, AllocError>
+    ensures { IfOk result (λ text. text.items ≡ report_of job.now) }
+{
     let mut buffer = [0u8; REPORT_ROOM];
     let n = whole_report(job, &mut buffer);
-    rt.stdout().write_all(&buffer[..n])?;
-    Ok(())
+    Vec::from_slice(alloc, &buffer[..n])
 }
 
 // A job, as `fan` writes it.
-pub fn write_lowest(rt: &HostRuntime, job: &[u8]) -> Result<()> {
+pub fn lowest_case(alloc: Global, job: &[u8]) -> Result<Vec<u8>, AllocError>
+    ensures { IfOk result (λ text. text.items ≡ rate_line job.now) }
+{
     let mut buffer = [0u8; RATE_LINE_ROOM];
     let n = rate_line(job, &mut buffer);
-    rt.stdout().write_all(&buffer[..n])?;
-    Ok(())
+    Vec::from_slice(alloc, &buffer[..n])
 }
 
-// The rate (u32), how many places the lent list has (u16), and the book. Written: the answer, and then every place.
-pub fn write_factors(rt: &HostRuntime, body: &[u8]) -> Result<()> {
+// The factor call: its answer, and then every place of the lent list.
+pub fn factors_case(alloc: Global, body: &[u8]) -> Result<Vec<u8>, AllocError>
+    ensures { IfOk result (λ text. text.items ≡ factors_case body.now) }
+{
     let rate = u32_at(body, 0) as u32;
-    let mut list = vec![in rt.alloc(); PLACE; u16_at(body, 4) as usize]?;
+    let mut list = vec![in alloc; PLACE; u16_at(body, 4) as usize]?;
     let answer = factors(rate, rest(body, 6), &mut list);
-    write_places(rt, answer, &list)
+    written(alloc, answer, &list)
 }
 
-// How many places the lent list has (u16), how many numbers there are (u16), the numbers (u32 each), and the book.
-pub fn write_opening(rt: &HostRuntime, body: &[u8]) -> Result<()> {
-    let mut list = vec![in rt.alloc(); PLACE; u16_at(body, 0) as usize]?;
+// The call for periods, in the same way.
+pub fn opening_case(alloc: Global, body: &[u8]) -> Result<Vec<u8>, AllocError>
+    ensures { IfOk result (λ text. text.items ≡ opening_case body.now) }
+{
+    let mut list = vec![in alloc; PLACE; u16_at(body, 0) as usize]?;
     let count = u16_at(body, 2);
-    let periods = numbers(rt, body, 4, count)?;
+    let periods = numbers(alloc, body, 4, count)?;
     let answer = factors_after(&periods, rest(body, 4 + 4 * count as usize), &mut list);
-    write_places(rt, answer, &list)
+    written(alloc, answer, &list)
 }
 
-// How many bytes the lent buffer has (u32), how many rates there are (u16), the rates (u32 each), and the book.
-// Written: the answer, and then every byte of the buffer.
-pub fn write_table(rt: &HostRuntime, body: &[u8]) -> Result<()> {
-    let mut buffer = vec![in rt.alloc(); BYTE; u32_at(body, 0) as usize]?;
+// The table call: its answer, and then every byte of the lent buffer.
+pub fn table_case(alloc: Global, body: &[u8]) -> Result<Vec<u8>, AllocError>
+    ensures { IfOk result (λ text. text.items ≡ table_case body.now) }
+{
+    let mut buffer = vec![in alloc; BYTE; u32_at(body, 0) as usize]?;
     let count = u16_at(body, 4);
-    let rates = numbers(rt, body, 6, count)?;
-    match tabulate(&rates, rest(body, 6 + 4 * count as usize), &mut buffer) {
-        TableAnswer::Written(length) => println!(rt; "written {length}")?,
-        TableAnswer::Refused(refusal) => {
-            let number = refusal_number(refusal);
-            println!(rt; "refused {number}")?;
-        }
-    }
-    rt.stdout().write_all(&buffer)?;
-    println!(rt; "")?;
-    Ok(())
+    let rates = numbers(alloc, body, 6, count)?;
+    let answer = tabulate(&rates, rest(body, 6 + 4 * count as usize), &mut buffer);
+    let mut text = Vec::new(alloc);
+    push_measured(&mut text, answer)?;
+    text.extend_from_slice(&buffer)?;
+    text.extend_from_slice(b"\n")?;
+    Ok(text)
 }
 
-fn write_places(rt: &HostRuntime, answer: FactorAnswer, list: &[u64]) -> Result<()> {
+fn push_measured(text: &mut Vec<u8>, answer: TableAnswer) -> Result<(), AllocError>
+    ensures { OnOk result (text.new.items ≡ text.old.items ++ measured answer) }
+{
     match answer {
-        FactorAnswer::Filled(count) => print!(rt; "filled {count} :")?,
-        FactorAnswer::Refused(refusal) => {
-            let number = refusal_number(refusal);
-            print!(rt; "refused {number} :")?;
-        }
+        TableAnswer::Written(length) => push_number(text, b"written ", length as u64)?,
+        TableAnswer::Refused(refusal) => push_number(text, b"refused ", refusal_number(refusal))?,
     }
-    for place in list {
-        print!(rt; " {place}")?;
+    text.extend_from_slice(b"\n")
+}
+
+fn written(alloc: Global, answer: FactorAnswer, list: &[u64]) -> Result<Vec<u8>, AllocError>
+    ensures { IfOk result (λ text. text.items ≡ list_line answer list.now) }
+{
+    let mut text = Vec::new(alloc);
+    push_counted(&mut text, answer)?;
+    text.extend_from_slice(b" :")?;
+    push_places(&mut text, list)?;
+    text.extend_from_slice(b"\n")?;
+    Ok(text)
+}
+
+fn push_counted(text: &mut Vec<u8>, answer: FactorAnswer) -> Result<(), AllocError>
+    ensures { OnOk result (text.new.items ≡ text.old.items ++ counted answer) }
+{
+    match answer {
+        FactorAnswer::Filled(count) => push_number(text, b"filled ", count as u64),
+        FactorAnswer::Refused(refusal) => push_number(text, b"refused ", refusal_number(refusal)),
     }
-    println!(rt; "")?;
-    Ok(())
 }
 
 // So many numbers of four bytes each from an offset on.
-fn numbers(rt: &HostRuntime, body: &[u8], offset: usize, count: u64) -> Result<Vec<u32>>
+#[tactic(auto, using(crate::proofs::Turns::turns))]
+fn numbers(alloc: Global, body: &[u8], offset: u32, count: u64) -> Result<Vec<u32>, AllocError>
     requires within { (offset < 8) × (count < 65536) }
+    ensures { IfOk result (λ list. list.items ≡ numbers_at body.now offset count) }
 {
-    let mut list = Vec::new(rt.alloc());
-    for i in 0..count as usize {
-        list.push(u32_at(body, (offset + 4 * i) as u32) as u32)?;
+    let mut list = Vec::new(alloc);
+    for i in 0..count as u32 {
+        list.push(u32_at(body, offset + 4 * i) as u32)?;
     }
     Ok(list)
 }
 
 // The bytes from an offset on; none where there are fewer.
-fn rest(body: &[u8], offset: usize) -> &[u8] {
+fn rest(body: &[u8], offset: usize) -> &[u8]
+    ensures { result.now ≡ drop offset body.now }
+{
     if offset < body.len() {
         &body[offset..]
     } else {

@@ -1,13 +1,11 @@
-// A record is a length in two bytes, lowest first, and so many bytes. Other cases begin with a head of eight bytes,
-// which says how many bytes follow it.
-ghost use Rattle.std.specs.Prelude.{◌≡◌, ◌≤◌, false, length, IfOk};
+// A record is a length in two bytes, lowest first, and so many bytes.
+ghost use Rattle.std.specs.Prelude.{◌≡◌, ◌≤◌, ◌+◌, ◌++◌, false, length, take, vec_len, IfOk, IfSome};
 ghost use Rattle.std.specs.Io.{ReadsAtMost, StartsWith};
 
+use arguments::first_bytes;
 use numbers::u16_at;
 use std::alloc::Global;
 use std::io::{Read, Result};
-
-const HEAD: usize = 8;
 
 // Whether there was a record, and how many bytes of it were read.
 #[derive(Clone, Copy)]
@@ -37,21 +35,20 @@ pub fn read_record<R: Read>(input: &mut R, into: &mut [u8]) -> Result<Record>
     Ok(Record { read: true, length })
 }
 
-// The next head, or none where the input ends before.
-pub fn read_head<R: Read>(input: &mut R) -> Result<Option<[u8; HEAD]>> {
-    let mut head = [0u8; HEAD];
-    if read_full(input, &mut head)? < HEAD {
-        return Ok(None);
-    }
-    Ok(Some(head))
-}
-
-// The bytes of a head that begin a body, and so many bytes that follow the head, or fewer where the input ends before.
-pub fn read_body<R: Read>(alloc: Global, input: &mut R, begin: &[u8], rest: u64) -> Result<Vec<u8>>
-    ensures { IfOk result (λ body. StartsWith body.items begin.now) }
+// Some bytes that are there already, and so many that a reader has after them, or fewer where it has no more.
+pub fn read_body<R: Read>(
+    alloc: Global,
+    input: &mut R,
+    begin: &[u8],
+    rest: usize,
+) -> Result<Vec<u8>>
+    ensures first { IfOk result (λ body. StartsWith body.items begin.now) }
+    ensures whole { IfOk result (λ body. IfSome (R.remaining input.old) (λ all. body.items ≡ begin.now ++ take rest all)) }
+    ensures within { IfOk result (λ body. vec_len body ≤ length begin.now + rest) }
 {
+    let after = first_bytes(alloc, &mut *input, rest)?;
     let mut body = Vec::from_slice(alloc, begin)?;
-    input.by_ref().take(rest).read_to_end(&mut body)?;
+    body.extend_from_slice(&after)?;
     Ok(body)
 }
 

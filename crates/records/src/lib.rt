@@ -3,8 +3,7 @@
 
 mod answers;
 mod input;
-mod turns;
+mod words;
 
-pub use answers::{write_factors, write_lowest, write_opening, write_report, write_table};
-pub use input::{Record, read_body, read_head, read_record};
-pub use turns::{answer_all, answer_record};
+pub use answers::{factors_case, lowest_case, opening_case, report_case, table_case};
+pub use input::{Record, read_body, read_record};

@@ -4,11 +4,17 @@
 #![tactic(auto)]
 
 use anyhow::Result;
-use arguments::ended;
+use arguments::{ended, first_bytes};
 use numbers::{u16_at, u32_at};
-use records::{answer_all, read_body, read_head, write_table};
-use std::io::Read;
+use records::{read_body, table_case};
+use std::alloc::Global;
+use std::io::{Read, Write};
 use std::process::ExitCode;
+
+// More cases than any recording has.
+const MOST: u32 = 100_000;
+
+const HEAD: usize = 8;
 
 // No recorded case has a longer buffer, more rates or a longer book.
 const MOST_ROOM: u64 = 65_536;
@@ -18,21 +24,33 @@ const MOST_RATES: u64 = 300;
 const MOST_BOOK: u64 = 2_000;
 
 fn main(rt: HostRuntime) -> ExitCode {
-    let answered = answer_all(&rt, rt.stdin(), answer_next);
+    let answered = answer_all(&rt);
     ended(&rt, answered)
 }
 
-// Answers the next case, as far as it goes where it is cut off; false where there is none, or one beyond the limits.
-fn answer_next<R: Read>(rt: &HostRuntime, input: &mut R) -> Result<bool> {
-    let Some(head) = read_head(input)? else {
-        return Ok(false);
-    };
+fn answer_all(rt: &HostRuntime) -> Result<()> {
+    let mut input = rt.stdin();
+    for _ in 0..MOST {
+        let Some(body) = next_body(rt.alloc(), &mut input)? else {
+            break;
+        };
+        let text = table_case(rt.alloc(), &body)?;
+        rt.stdout().write_all(&text)?;
+    }
+    Ok(())
+}
+
+// The body of the next case, as far as it goes where it is cut off; none where there is none, or one beyond the limits.
+fn next_body<R: Read>(alloc: Global, input: &mut R) -> Result<Option<Vec<u8>>> {
+    let head = first_bytes(alloc, input.by_ref(), HEAD)?;
+    if head.len() < HEAD {
+        return Ok(None);
+    }
     let rates = u16_at(&head, 4);
     let book = u16_at(&head, 6);
     if MOST_ROOM < u32_at(&head, 0) || MOST_RATES < rates || MOST_BOOK < book {
-        return Ok(false);
+        return Ok(None);
     }
-    let body = read_body(rt.alloc(), input, &head[..6], 4 * rates + book)?;
-    write_table(rt, &body)?;
-    Ok(true)
+    let body = read_body(alloc, input, &head[..6], (4 * rates + book) as usize)?;
+    Ok(Some(body))
 }

@@ -1,0 +1,67 @@
+-- What is written of a recorded case of each kind, given its body. Numbers in a body are little-endian.
+use Rattle.std.specs.Prelude.{ℕ, ◌+◌, ◌*◌, List, [], ◌∷◌, ◌++◌, length, drop, replicate}
+use Rattle.refusals.specs.Grounds.{refusal_number}
+use Rattle.numbers.specs.Bytes.{u16_at, u32_at}
+use Rattle.book.specs.Held.{up_to}
+use Rattle.balance.specs.Factors.{factor_answer, factor_list}
+use Rattle.balance.specs.declared.FactorAnswer.{FactorAnswer}
+use Rattle.minutes.specs.Periods.{periods_answer, periods_list}
+use Rattle.tables.specs.Answers.{table_answer, table_buffer}
+use Rattle.tables.specs.declared.TableAnswer.{TableAnswer}
+use Rattle.text.specs.Words.{ascii, decimal, line_feed, numbered}
+
+-- So many numbers of four bytes each, from an offset on.
+abbrev pub numbers_at : List ℕ → ℕ → ℕ → List ℕ
+numbers_at body offset count = up_to count (λ i. u32_at body (offset + 4 * i))
+
+-- What every place of a lent list, or of a lent buffer, holds before a call.
+abbrev pub lent_list : ℕ → List ℕ
+lent_list n = replicate n 7
+
+abbrev pub lent_buffer : ℕ → List ℕ
+lent_buffer n = replicate n 35
+
+-- Each place of a list, after a space.
+unfoldable pub places : List ℕ → List ℕ
+places [] = []
+places (place ∷ list) = ascii " " ++ decimal place ++ places list
+
+-- One line: how many places were filled or the refusal's number, a colon, and every place of the list after the call.
+abbrev pub counted : FactorAnswer → List ℕ
+counted (FactorAnswer.Filled n) = ascii "filled " ++ decimal n
+counted (FactorAnswer.Refused refusal) = ascii "refused " ++ decimal (refusal_number refusal)
+
+abbrev pub list_line : FactorAnswer → List ℕ → List ℕ
+list_line answer list = counted answer ++ ascii " :" ++ places list ++ line_feed
+
+-- The factor call: the rate (u32), how many places the lent list has (u16), the book.
+abbrev pub factors_case : List ℕ → List ℕ
+factors_case body =
+    let book = drop 6 body in
+    let list = lent_list (u16_at body 4) in
+    list_line (factor_answer (u32_at body 0) book (length list)) (factor_list (u32_at body 0) book list)
+
+-- The call for periods: how many places the lent list has (u16), how many numbers there are (u16), the numbers (u32
+-- each), the book.
+abbrev pub opening_case : List ℕ → List ℕ
+opening_case body =
+    let count = u16_at body 2 in
+    let periods = numbers_at body 4 count in
+    let book = drop (4 + 4 * count) body in
+    let list = lent_list (u16_at body 0) in
+    list_line (periods_answer periods book (length list)) (periods_list periods book list)
+
+-- Two lines: the text's length or the refusal's number; and every byte of the buffer after the call.
+abbrev pub measured : TableAnswer → List ℕ
+measured (TableAnswer.Written n) = numbered (ascii "written ") n
+measured (TableAnswer.Refused refusal) = numbered (ascii "refused ") (refusal_number refusal)
+
+-- The table call: how many bytes the lent buffer has (u32), how many rates there are (u16), the rates (u32 each), the
+-- book.
+abbrev pub table_case : List ℕ → List ℕ
+table_case body =
+    let count = u16_at body 4 in
+    let rates = numbers_at body 6 count in
+    let book = drop (6 + 4 * count) body in
+    let buffer = lent_buffer (u32_at body 0) in
+    measured (table_answer rates book (length buffer)) ++ table_buffer rates book buffer ++ line_feed

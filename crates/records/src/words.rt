@@ -1,0 +1,28 @@
+// A word, a number and the places of a list, at the end of a text.
+ghost use Rattle.std.specs.Prelude.{◌≡◌, ◌++◌, OnOk};
+ghost use Rattle.text.specs.Words.{decimal};
+ghost use Rattle.records.specs.Cases.{places};
+
+use std::alloc::AllocError;
+use text::MOST_DIGITS;
+
+// A word, and then a number in decimal.
+#[tactic(auto, using(text::proofs::Digits::digits_decimal))]
+pub(crate) fn push_number(text: &mut Vec<u8>, word: &[u8], n: u64) -> Result<(), AllocError>
+    ensures { OnOk result (text.new.items ≡ text.old.items ++ word.now ++ decimal n) }
+{
+    let mut digits = [0u8; MOST_DIGITS];
+    let k = io::decimal(n, &mut digits);
+    text.extend_from_slice(word)?;
+    text.extend_from_slice(&digits[..k])
+}
+
+// Each number of a list after a space.
+pub(crate) fn push_places(text: &mut Vec<u8>, list: &[u64]) -> Result<(), AllocError>
+    ensures { OnOk result (text.new.items ≡ text.old.items ++ places list.now) }
+{
+    for i in 0..list.len() {
+        push_number(text, b" ", list[i])?;
+    }
+    Ok(())
+}
