@@ -1,5 +1,5 @@
 -- What is written of a recorded case of each kind, given its body. Numbers in a body are little-endian.
-use Rattle.std.specs.Prelude.{ℕ, ◌+◌, ◌*◌, List, [], ◌∷◌, ◌++◌, length, drop, replicate}
+use Rattle.std.specs.Prelude.{ℕ, ◌+◌, ◌*◌, min, List, [], ◌∷◌, ◌++◌, length, take, drop, replicate}
 use Rattle.refusals.specs.Grounds.{refusal_number}
 use Rattle.numbers.specs.Bytes.{u16_at, u32_at}
 use Rattle.book.specs.Held.{up_to}
@@ -9,6 +9,10 @@ use Rattle.minutes.specs.Periods.{periods_answer, periods_list}
 use Rattle.tables.specs.Answers.{table_answer, table_buffer}
 use Rattle.tables.specs.declared.TableAnswer.{TableAnswer}
 use Rattle.text.specs.Words.{ascii, decimal, line_feed, numbered}
+
+-- The first record of some bytes, as much of it as there is room for: a length in two bytes, and so many bytes.
+abbrev pub first_record : List ℕ → ℕ → List ℕ
+first_record all room = take (min room (u16_at all 0)) (drop 2 all)
 
 -- So many numbers of four bytes each, from an offset on.
 abbrev pub numbers_at : List ℕ → ℕ → ℕ → List ℕ

@@ -1,6 +1,8 @@
 // A record is a length in two bytes, lowest first, and so many bytes.
-ghost use Rattle.std.specs.Prelude.{◌≡◌, ◌≤◌, ◌+◌, ◌++◌, false, length, take, vec_len, IfOk, IfSome};
+ghost use Rattle.std.specs.Prelude.{◌≡◌, ◌≤◌, ◌<◌, ◌+◌, ◌++◌, false, true, nat_le, length, take, vec_len, IfOk, IfSome};
 ghost use Rattle.std.specs.Io.{ReadsAtMost, StartsWith};
+ghost use Rattle.records.specs.Cases.{first_record};
+ghost use Rattle.std.specs.Io.KnownBytes.{Consumes, IsAtEnd};
 
 use arguments::first_bytes;
 use numbers::u16_at;
@@ -25,6 +27,9 @@ const NO_RECORD: Record = Record {
 pub fn read_record<R: Read>(input: &mut R, into: &mut [u8]) -> Result<Record>
     ensures within { IfOk result (λ found. found.length ≤ length into.new) }
     ensures none { IfOk result (λ found. found.read ≡ false → found.length ≡ 0) }
+    ensures there { IfOk result (λ found. IfSome (R.remaining input.old) (λ all. found.read ≡ nat_le 2 (length all))) }
+    ensures bytes { IfOk result (λ found. IfSome (R.remaining input.old) (λ all.
+        found.read ≡ true → take found.length into.new ≡ first_record all (length into.new))) }
 {
     let mut head = [0u8; 2];
     if read_full(input, &mut head)? < 2 {
@@ -54,7 +59,10 @@ pub fn read_body<R: Read>(
 
 // Reads until `into` is full or the input ends, and says how many bytes came.
 fn read_full<R: Read>(input: &mut R, into: &mut [u8]) -> Result<usize>
-    ensures { ReadsAtMost result into.new }
+    ensures bound { ReadsAtMost result into.new }
+    ensures size { length into.new ≡ length into.old }
+    ensures bytes { IfOk result (λ n. Consumes (R.remaining input.old) (R.remaining input.new) (take n into.new)) }
+    ensures end { IfOk result (λ n. n < length into.new → IsAtEnd (R.remaining input.new)) }
 {
     let mut done = 0;
     while done < into.len() {
