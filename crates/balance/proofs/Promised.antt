@@ -1,23 +1,22 @@
 -- Demand 3's promises of the factors: an accepted book means a sound chain, and a sound chain's factors keep them, whatever the rates.
 -- A call that answers n has passed its checks, and place i of its list holds member i's reported factor.
+use Rattle.refusals.specs.declared.Refusal.{Refusal}
 use Prim.Native.Nat.{ℕ, ◌-◌, ◌≤◌, ◌<◌}
 use native.Mathlib.Nat.{le_refl}
 use native.Mathlib.Omega.{arith}
 use mathlib.Core.Path.{◌≡◌, refl, ap, subst, sym, ◌∙◌}
 use mathlib.Core.List.{List, ◌++◌}
-use Rattle.std.specs.Prelude.{pos}
+use Rattle.std.specs.Prelude.{pos, Result, Ok}
 use lib.ListN.{length, get_or, drop}
-use Rattle.refusals.specs.Grounds.{first_met}
-use Rattle.refusals.specs.declared.Checked.{Checked}
+use Rattle.refusals.specs.Grounds.{first_met, Checked, answer_if, answer_number}
 use Rattle.book.specs.BookGrounds.{Accepted}
 use Rattle.book.specs.Fields.{members, scale_of}
 use Rattle.book.specs.Rates.{rates_at}
 use Rattle.book.proofs.Rates.{scale_positive, rates_rise}
 use Rattle.balance.specs.Chain.{chain_of}
 use Rattle.balance.specs.Balance.{G}
-use Rattle.balance.specs.Factors.{factor_grounds, factor_at, factors_at, filled_if, answer_number, factor_answer, factor_list}
+use Rattle.balance.specs.Factors.{factor_grounds, factor_at, factors_at, factor_answer, factor_list}
 use Rattle.balance.specs.Promises.{FactorPromise, FallPromise, ListPromise, FactorPromises}
-use Rattle.balance.specs.declared.FactorAnswer.{FactorAnswer}
 use Rattle.balance.proofs.AcceptedSound.{accepted_sound}
 use Rattle.balance.proofs.Reported.{reported_at}
 use Rattle.balance.proofs.SoundFactors.{factor_promise, fall_promise, reported_at_most_g}
@@ -29,7 +28,7 @@ module _ (v : ℕ) (book list : List ℕ) {n : ℕ} (answered : answer_number (f
   abbrev found : Checked
   found = first_met (factor_grounds v book (length list))
 
-  passed : (found ≡ Checked.Passed) × (members book ≡ n)
+  passed : (found ≡ Ok tt) × (members book ≡ n)
   passed = filled_passed found (members book) n answered
 
   pub filled_call : CallPasses v book (length list)
@@ -51,7 +50,7 @@ module _ (v : ℕ) (book list : List ℕ) {n : ℕ} (answered : answer_number (f
 -- A call within its limits leaves each member's factor in its place, none above the parent's.
 pub accepted_place : (v : ℕ) (book list : List ℕ) → CallPasses v book (length list) → (i : ℕ) → i < members book → get_or (factor_list v book list) i 0 ≡ factor_at book v i
 accepted_place v book list passes i l =
-    filled_place v book list (ap (λ result. answer_number (filled_if result (members book))) (passing_call v book (length list) passes)) i l
+    filled_place v book list (ap (λ result. answer_number (answer_if result (members book))) (passing_call v book (length list) passes)) i l
 
 pub factor_at_most_g : (book : List ℕ) (v i : ℕ) → Accepted book → i < members book → factor_at book v i ≤ G
 factor_at_most_g book v i accepted l = reported_at_most_g (scale_positive book) (accepted_sound book accepted) (rates_at book v) i i l (le_refl i)
@@ -65,7 +64,7 @@ list_promise v book list n i answered l =
 
 -- What a call keeps that answers and leaves the list as defined.
 pub kept :
-    (v : ℕ) (book list : List ℕ) {answer : FactorAnswer} {now : List ℕ} →
+    (v : ℕ) (book list : List ℕ) {answer : Result ℕ Refusal} {now : List ℕ} →
     answer ≡ factor_answer v book (length list) → now ≡ factor_list v book list → ListPromise v book answer now
 kept v book list answered left = rw (answered, left) (list_promise v book list)
 
@@ -77,7 +76,7 @@ module _ {v : ℕ} {book now : List ℕ} (list : List ℕ) (passes : CallPasses 
       filled_list refl (members book) (factors_at book v) list (passing_call v book (length list) passes)
       (factors_length book v passes.accepted) filled
 
-  pub filled_keeps : ListPromise v book (FactorAnswer.Filled (members book)) now
+  pub filled_keeps : ListPromise v book (Ok (members book)) now
   filled_keeps =
       kept v book list
       (filled_answer refl (members book) (factors_at book v) list (passing_call v book (length list) passes) refl)

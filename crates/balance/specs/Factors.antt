@@ -1,13 +1,12 @@
 -- The factor call: a rate, a book and a lent list in; checks 3, 9 to 19.
-use Rattle.std.specs.Prelude.{ℕ, ℤ, pos, ◌-◌, List, [], ◌∷◌, ◌++◌, length, drop, ltb}
+use Rattle.refusals.specs.declared.Refusal.{Refusal}
+use Rattle.std.specs.Prelude.{ℕ, ℤ, pos, ◌-◌, List, [], ◌∷◌, ◌++◌, length, drop, ltb, Result, Ok, Err}
 use Rattle.book.specs.Rates.{max_rate, rates_at}
 use Rattle.book.specs.Fields.{members, scale_of}
-use Rattle.refusals.specs.Grounds.{Ground, ground_of, first_met, refused_number}
+use Rattle.refusals.specs.Grounds.{Ground, ground_of, first_met, refused_number, Checked, answer_if, written_if}
 use Rattle.book.specs.BookGrounds.{book_grounds}
 use Rattle.balance.specs.Chain.{chain_of}
 use Rattle.balance.specs.Balance.{reported, reported_factor}
-use Rattle.refusals.specs.declared.Checked.{Checked}
-use Rattle.balance.specs.declared.FactorAnswer.{FactorAnswer}
 use Rattle.refusals.specs.declared.Refusal.TheVariants.{RateTooHigh, ListTooShort}
 
 -- The factors of a book's members at rate v, in grains.
@@ -23,23 +22,9 @@ abbrev pub factor_grounds : ℕ → List ℕ → ℕ → List Ground
 factor_grounds v book capacity =
     ground_of RateTooHigh (ltb max_rate v) ∷ book_grounds book ++ (ground_of ListTooShort (ltb capacity (members book)) ∷ [])
 
--- Accepted, the call returns n; a refusal returns the refusal alone.
-abbrev pub filled_if : Checked → ℕ → FactorAnswer
-filled_if Checked.Passed n = FactorAnswer.Filled n
-filled_if (Checked.Refused r) n = FactorAnswer.Refused r
-
--- Accepted, the first n places of the list hold the factors and no others are written; a refusal leaves it as it was.
-abbrev pub written_if : Checked → List ℕ → List ℕ → List ℕ
-written_if Checked.Passed factors list = factors ++ drop (length factors) list
-written_if (Checked.Refused r) factors list = list
-
-abbrev pub factor_answer : ℕ → List ℕ → ℕ → FactorAnswer
-factor_answer v book capacity = filled_if (first_met (factor_grounds v book capacity)) (members book)
+-- Accepted, the call answers n, and the first n places of the list hold the factors.
+abbrev pub factor_answer : ℕ → List ℕ → ℕ → Result ℕ Refusal
+factor_answer v book capacity = answer_if (first_met (factor_grounds v book capacity)) (members book)
 
 abbrev pub factor_list : ℕ → List ℕ → List ℕ → List ℕ
 factor_list v book list = written_if (first_met (factor_grounds v book (length list))) (factors_at book v) list
-
--- The number of an answer, as every caller gets it: n, or minus the number of the refusal.
-abbrev pub answer_number : FactorAnswer → ℤ
-answer_number (FactorAnswer.Filled n) = pos n
-answer_number (FactorAnswer.Refused r) = refused_number r

@@ -1,5 +1,7 @@
 -- What demand 3 promises of the factors, for every rate from 0 to 100,000 and every book that the checks accept.
-use Rattle.std.specs.Prelude.{ℕ, pos, ◌+◌, ◌*◌, ◌≤◌, ◌<◌, ◌≡◌, List, length, get_or}
+use Rattle.refusals.specs.declared.Refusal.{Refusal}
+use Rattle.refusals.specs.Grounds.{answer_number}
+use Rattle.std.specs.Prelude.{ℕ, pos, ◌+◌, ◌*◌, ◌≤◌, ◌<◌, ◌≡◌, List, length, get_or, Result}
 use Rattle.book.specs.Fields.{members, scale_of}
 use Rattle.book.specs.BookGrounds.{Accepted}
 use Rattle.book.specs.Rates.{max_rate, rates_at}
@@ -7,8 +9,7 @@ use Rattle.balance.specs.Chain.{Chain, chain_of}
 use Rattle.balance.specs.Sound.{Sound}
 use Rattle.balance.specs.Balance.{G, reported_factor}
 use Rattle.balance.specs.Exact.{numerator, denominator}
-use Rattle.balance.specs.Factors.{answer_number, factor_answer, factor_list}
-use Rattle.balance.specs.declared.FactorAnswer.{FactorAnswer}
+use Rattle.balance.specs.Factors.{factor_answer, factor_list}
 
 -- Of a number that is reported as member i's factor, in grains. Each comparison with the exact factor, numerator / denominator,
 -- is multiplied out.
@@ -29,7 +30,7 @@ pub record FallPromise (scale : ℕ) (chain : Chain) (rate higher : ℕ → ℕ)
   pub reported_falls : reported_factor scale chain higher i ≤ reported_factor scale chain rate i
 
 -- Of the list that a call leaves, by its answer: where n factors are filled in, place i below n keeps member i's promise.
-abbrev pub ListPromise : ℕ → List ℕ → FactorAnswer → List ℕ → Type 0
+abbrev pub ListPromise : ℕ → List ℕ → Result ℕ Refusal → List ℕ → Type 0
 ListPromise v book answer list =
     (n i : ℕ) → answer_number answer ≡ pos n → i < n → FactorPromise (scale_of book) (chain_of book) (rates_at book v) i (get_or list i 0)
 

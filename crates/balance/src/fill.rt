@@ -1,6 +1,6 @@
 // The balance of an accepted chain, written into a lent list. The chain's arrays are lent: none is copied, and none is
 // of factors.
-ghost use Rattle.std.specs.Prelude.{◌≡◌, ◌++◌, ◌+◌, ◌*◌, ◌/◌, ◌≤◌, ◌<◌, length, drop};
+ghost use Rattle.std.specs.Prelude.{◌≡◌, Ok, ◌++◌, ◌+◌, ◌*◌, ◌/◌, ◌≤◌, ◌<◌, length, drop};
 ghost use Rattle.book.specs.Limits.{max_half_life};
 ghost use Rattle.book.specs.Fields.{members};
 ghost use Rattle.book.specs.BookGrounds.{Accepted};
@@ -9,7 +9,6 @@ ghost use Rattle.book.specs.Rates.{max_rate};
 ghost use Rattle.balance.specs.Balance.{K};
 ghost use Rattle.balance.specs.Factors.{factors_at, factor_list};
 ghost use Rattle.balance.specs.Promises.{ListPromise};
-ghost use Rattle.balance.specs.declared.FactorAnswer.TheVariants.{Filled};
 
 use super::feeds::inflow_of;
 use super::limits::{DECAY, GRAINS};
@@ -38,7 +37,7 @@ pub fn fill_accepted(v: u32, book: &[u8], chain: &HeldChain, out: &mut [u64])
     ensures filled { let bytes = book.now in
         out.new ≡ factors_at bytes v ++ drop (members bytes) out.old }
     ensures written { out.new ≡ factor_list v book.now out.old }
-    ensures sound { ListPromise v book.now (Filled (members book.now)) out.new }
+    ensures sound { ListPromise v book.now (Ok (members book.now)) out.new }
 {
     out[0] = GRAINS;
     for i in 1..member_count(book) as usize {

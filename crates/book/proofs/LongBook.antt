@@ -1,5 +1,6 @@
 -- No accepted book is longer than `longest_book`, since it has at most 16 members and 64 feeds. A longer one is refused by ground 10 or 11, and those read
 -- its two counts and its length: so as many bytes of it as are one too many are refused as it is.
+use Rattle.std.specs.Prelude.{Err}
 use Prim.Native.Nat.{ℕ, ◌+◌, ◌*◌, ◌<◌}
 use native.Mathlib.Omega.{arith}
 use mathlib.Core.Path.{◌≡◌, refl, ap, ap₂, ◌∙◌}
@@ -9,8 +10,7 @@ use lib.Dec.{ltb, eqb}
 use lib.ListN.{length, take}
 use lib.Seq.{get_or-take, length-take-le}
 use borrow.Author.Tests.{ltb-false, le-ltb, ne_eqb}
-use Rattle.refusals.specs.Grounds.{first_met}
-use Rattle.refusals.specs.declared.Checked.{Checked}
+use Rattle.refusals.specs.Grounds.{first_met, Checked}
 use Rattle.refusals.specs.declared.Refusal.{Refusal}
 use Rattle.refusals.proofs.FirstMet.{neither}
 use Rattle.book.specs.Limits.{max_members, max_feeds}
@@ -34,12 +34,12 @@ length_wrong n m size long counts =
 
 count_or_length :
     (short counts wrong : Bool) (first second third : Refusal) (rest : Checked) → short ≡ false → (counts ≡ false → wrong ≡ true) →
-    cond short (Checked.Refused first) (cond counts (Checked.Refused second) (cond wrong (Checked.Refused third) rest))
-    ≡ Checked.Refused (cond counts second third)
+    cond short (Err first) (cond counts (Err second) (cond wrong (Err third) rest))
+    ≡ Err (cond counts second third)
 count_or_length short true wrong first second third rest long otherwise = rw long
 count_or_length short false wrong first second third rest long otherwise = rw (long, otherwise refl)
 
-pub long_book : (book : List ℕ) → longest_book < length book → first_met (book_grounds book) ≡ Checked.Refused (ground_of_long (members book) (feed_count book))
+pub long_book : (book : List ℕ) → longest_book < length book → first_met (book_grounds book) ≡ Err (ground_of_long (members book) (feed_count book))
 unfolding book_too_short count_out_of_range book_length_wrong
 long_book book long =
     count_or_length (book_too_short book) (count_out_of_range book) (book_length_wrong book) _ _ _ _
@@ -49,8 +49,8 @@ long_book book long =
 -- One byte too many is enough to tell.
 pub long_book_cut :
     (book : List ℕ) → longest_book < length book →
-    first_met (book_grounds (take (longest_book + 1) book)) ≡ Checked.Refused (ground_of_long (members book) (feed_count book))
+    first_met (book_grounds (take (longest_book + 1) book)) ≡ Err (ground_of_long (members book) (feed_count book))
 long_book_cut book long =
     let size = length-take-le (longest_book + 1) book (omega arith) in
     long_book (take (longest_book + 1) book) (omega arith)
-    ∙ ap₂ (λ n m. Checked.Refused (ground_of_long n m)) (get_or-take (longest_book + 1) book 0 0 (omega arith)) (get_or-take (longest_book + 1) book 1 0 (omega arith))
+    ∙ ap₂ (λ n m. Err (ground_of_long n m)) (get_or-take (longest_book + 1) book 0 0 (omega arith)) (get_or-take (longest_book + 1) book 1 0 (omega arith))

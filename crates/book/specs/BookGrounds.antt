@@ -1,11 +1,10 @@
 -- The grounds for refusing a book, in checking order (document 01, grounds 9 to 18).
 -- Each may read as if the earlier ones were not met; where they are, its value does not matter.
-use Rattle.std.specs.Prelude.{ℕ, zero, suc, ◌+◌, ◌-◌, ◌≡◌, Bool, not, cond, ◌||◌, List, [], ◌∷◌, ◌++◌, length, leb, ltb, eqb}
+use Rattle.std.specs.Prelude.{ℕ, zero, suc, ◌+◌, ◌-◌, ◌≡◌, Bool, not, cond, ◌||◌, List, [], ◌∷◌, ◌++◌, length, leb, ltb, eqb, Ok}
 use Rattle.numbers.specs.Bytes.{u8_at}
 use Rattle.book.specs.Limits.{max_members, max_feeds, max_parent_half_life, max_half_life, max_coefficient}
 use Rattle.book.specs.Fields.{header_length, header_zeros, header_zero_count, member_zeros, member_zero_count, feed_zeros, feed_zero_count, book_length, members, feed_count, working_level_divisor, half_life, coefficient_count, coefficient, first_feed, scale_of, share, from, next, feeds_of}
 use Rattle.refusals.specs.Grounds.{Ground, ground_of, first_met}
-use Rattle.refusals.specs.declared.Checked.TheVariants.{Passed}
 use Rattle.numbers.specs.Tests.{outside, some_below, some_in}
 use Rattle.numbers.specs.Sums.{sum_below}
 use Rattle.refusals.specs.declared.Refusal.TheVariants.{BookTooShort, CountOutOfRange, BookLengthWrong, DivisorOrZerosWrong, MemberOutOfRange, FeedOutOfRange, FeedNotOnce, FeedsMisplaced, FeedNotFromLower, SharesOutTooHigh}
@@ -107,4 +106,4 @@ book_grounds book = member_grounds book ++ feed_grounds book
 
 -- No ground is met.
 abbrev pub Accepted : List ℕ → Type 0
-Accepted book = first_met (book_grounds book) ≡ Passed
+Accepted book = first_met (book_grounds book) ≡ Ok tt

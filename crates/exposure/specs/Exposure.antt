@@ -1,6 +1,6 @@
 -- The defaults of an exposure, its limits, and ground 6 (document 01). ET is in quarter hours (document 02, R-1).
-use Rattle.std.specs.Prelude.{ℕ, Bool, cond, ◌||◌, ltb, eqb}
-use Rattle.refusals.specs.declared.Checked.{Checked}
+use Rattle.refusals.specs.Grounds.{Checked}
+use Rattle.std.specs.Prelude.{ℕ, Bool, cond, ◌||◌, ltb, eqb, Ok, Err}
 use Rattle.refusals.specs.declared.Refusal.{Refusal}
 use Rattle.exposure.specs.Totals.{Z}
 use Rattle.exposure.specs.declared.groups.Group.{Group}
@@ -44,5 +44,5 @@ exposure_answer e = cond (exposure_out_of_range e) ExposureAnswer.OutOfRange (Ex
 
 -- What such an answer says of the list of grounds.
 abbrev pub exposure_checked : ExposureAnswer → Checked
-exposure_checked (ExposureAnswer.Within e) = Checked.Passed
-exposure_checked ExposureAnswer.OutOfRange = Checked.Refused Refusal.ExposureOutOfRange
+exposure_checked (ExposureAnswer.Within e) = (Ok tt)
+exposure_checked ExposureAnswer.OutOfRange = Err Refusal.ExposureOutOfRange

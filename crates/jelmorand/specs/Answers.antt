@@ -1,12 +1,13 @@
 -- The number that a caller in another language gets: that of the call's own answer, the answer itself where it is not negative, and
 -- minus the number of the refusal otherwise.
+use Rattle.refusals.specs.Grounds.{answer_number}
 use Rattle.std.specs.Prelude.{ℕ, List, ℤ, pos}
-use Rattle.balance.specs.Factors.{factor_answer, answer_number}
+use Rattle.balance.specs.Factors.{factor_answer}
 use Rattle.minutes.specs.Periods.{periods_answer}
 use Rattle.text.specs.Lent.{length_written}
 use Rattle.report.specs.Report.{report_of}
 use Rattle.ventilation.specs.Lowest.{lowest_of, lowest_number}
-use Rattle.tables.specs.Answers.{table_answer, table_answer_number}
+use Rattle.tables.specs.Answers.{table_answer}
 
 -- What the factor call answers for a rate, a book and a list of so many places.
 abbrev pub factors_number : ℕ → List ℕ → ℕ → ℤ
@@ -19,7 +20,7 @@ report_number job capacity = pos (length_written (report_of job) capacity)
 
 -- What the table call answers for a list of rates, a book and so many places.
 abbrev pub table_number : List ℕ → List ℕ → ℕ → ℤ
-table_number rates book capacity = table_answer_number (table_answer rates book capacity)
+table_number rates book capacity = answer_number (table_answer rates book capacity)
 
 -- What the call for periods of airing answers.
 abbrev pub periods_number : List ℕ → List ℕ → ℕ → ℤ

@@ -2,22 +2,21 @@
 // number: the answer itself where it is not negative, and minus the number of the refusal otherwise.
 #![tactic(auto)]
 
-ghost use Rattle.std.specs.Prelude.{◌≡◌, length};
+ghost use Rattle.std.specs.Prelude.{◌≡◌, ◌<◌, ◌^◌, IfOk, length};
 ghost use Rattle.balance.specs.Factors.{factor_list};
 ghost use Rattle.minutes.specs.Periods.{periods_list};
 ghost use Rattle.report.specs.Report.{report_of};
 ghost use Rattle.text.specs.Lent.{bytes_written};
 ghost use Rattle.tables.specs.Answers.{table_buffer};
-ghost use Rattle.refusals.specs.Grounds.{refused_number};
+ghost use Rattle.refusals.specs.Grounds.{refused_number, answer_number};
 ghost use Rattle.jelmorand.specs.Answers.{factors_number, report_number};
 ghost use Rattle.jelmorand.specs.Answers.{table_number, periods_number, lowest_rate_number};
 
-use balance::FactorAnswer;
 use minutes::factors_after;
-use refusals::{Refusal, refusal_number};
+use refusals::Refusal;
 use report::report_job;
-use tables::{TableAnswer, tabulate};
-use ventilation::{LowestRate, lowest_rate};
+use tables::tabulate;
+use ventilation::lowest_rate;
 
 // What the lowest rate is answered as where there is none: one more than the highest rate.
 const NO_RATE: i64 = 100_001;
@@ -26,7 +25,18 @@ const NO_RATE: i64 = 100_001;
 fn refused(refusal: Refusal) -> i64
     ensures { result ≡ refused_number refusal }
 {
-    -(refusal_number(refusal) as i64)
+    -(u64::from(refusal) as i64)
+}
+
+// A count or a length as every call answers it, or its refusal.
+fn number_of(answer: Result<usize, Refusal>) -> i64
+    requires { IfOk answer (λ n. n < 2 ^ 63) }
+    ensures { result ≡ answer_number answer }
+{
+    match answer {
+        Ok(n) => n as i64,
+        Err(refusal) => refused(refusal),
+    }
 }
 
 // The factors of every member at rate `v`, into the first places of `out`; a refusal leaves `out` as it was.
@@ -35,11 +45,7 @@ pub extern "C" fn jelmorand_factors(v: u32, book: &[u8], out: &mut [u64]) -> i64
     ensures answered { result ≡ factors_number v book.now (length out.old) }
     ensures written { out.new ≡ factor_list v book.now out.old }
 {
-    let answer = balance::factors(v, book, out);
-    match answer {
-        FactorAnswer::Filled(count) => count as i64,
-        FactorAnswer::Refused(refusal) => refused(refusal),
-    }
+    number_of(balance::factors(v, book, out))
 }
 
 // The report of a job, to the start of `out`, and its length; where there is no room for all of it 0, with `out` as it
@@ -58,11 +64,7 @@ pub extern "C" fn jelmorand_table(rates: &[u32], book: &[u8], out: &mut [u8]) ->
     ensures answered { result ≡ table_number rates.now book.now (length out.old) }
     ensures written { out.new ≡ table_buffer rates.now book.now out.old }
 {
-    let answer = tabulate(rates, book, out);
-    match answer {
-        TableAnswer::Written(length) => length as i64,
-        TableAnswer::Refused(refusal) => refused(refusal),
-    }
+    number_of(tabulate(rates, book, out))
 }
 
 // The factors of every member after periods of airing, each a rate and so many minutes, into the first places of `out`;
@@ -72,11 +74,7 @@ pub extern "C" fn jelmorand_factors_after(periods: &[u32], book: &[u8], out: &mu
     ensures answered { result ≡ periods_number periods.now book.now (length out.old) }
     ensures written { out.new ≡ periods_list periods.now book.now out.old }
 {
-    let answer = factors_after(periods, book, out);
-    match answer {
-        FactorAnswer::Filled(filled) => filled as i64,
-        FactorAnswer::Refused(reason) => refused(reason),
-    }
+    number_of(factors_after(periods, book, out))
 }
 
 // The lowest rate at which the verdict on a job is 'below', or 100,001 where no rate gives it.
@@ -84,10 +82,8 @@ pub extern "C" fn jelmorand_factors_after(periods: &[u32], book: &[u8], out: &mu
 pub extern "C" fn jelmorand_lowest_rate(job: &[u8]) -> i64
     ensures { result ≡ lowest_rate_number job.now }
 {
-    let answer = lowest_rate(job);
-    match answer {
-        LowestRate::Rate(rate) => rate as i64,
-        LowestRate::None => NO_RATE,
-        LowestRate::Refused(reason) => refused(reason),
+    match lowest_rate(job) {
+        Ok(rate) => rate.map_or(NO_RATE, i64::from),
+        Err(refusal) => refused(refusal),
     }
 }

@@ -1,5 +1,6 @@
 -- What passing the call's checks says: each rate is within its limit, the book is accepted, and the list has room.
 -- Then there is one factor for each member.
+use Rattle.std.specs.Prelude.{Ok}
 use Prim.Native.Nat.{ℕ, ◌+◌, ◌-◌, ◌/◌}
 use native.Mathlib.Omega.{arith}
 use mathlib.Core.Path.{◌≡◌, sym, ◌∙◌}
@@ -8,7 +9,6 @@ use lib.Dec.{ltb}
 use lib.ListN.{length}
 use borrow.Author.Tests.{ltb-false}
 use Rattle.refusals.specs.Grounds.{ground_of, first_met}
-use Rattle.refusals.specs.declared.Checked.TheVariants.{Passed}
 use Rattle.refusals.specs.declared.Refusal.TheVariants.{ListTooShort}
 use Rattle.refusals.proofs.FirstMet.{not_met, first_of_both, both_pass}
 use Rattle.book.specs.Fields.{members, scale_of}
@@ -22,7 +22,7 @@ use Rattle.minutes.specs.Private.Holding.{PeriodsPass}
 use Rattle.minutes.proofs.Periods.{periods_length}
 use Rattle.minutes.proofs.Holding.{members_are}
 
-pub periods_pass : (periods book : List ℕ) (capacity : ℕ) → first_met (periods_grounds periods book capacity) ≡ Passed → PeriodsPass periods book capacity
+pub periods_pass : (periods book : List ℕ) (capacity : ℕ) → first_met (periods_grounds periods book capacity) ≡ Ok tt → PeriodsPass periods book capacity
 unfolding period_rate_too_high
 periods_pass periods book capacity passed =
     let short = ground_of ListTooShort (ltb capacity (members book)) ∷ [] in

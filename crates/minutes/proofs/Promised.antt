@@ -1,5 +1,6 @@
 -- What R-5 promises: of the definitions by the laws of the minutes, since an accepted book means a sound chain; of a call because place i of its
 -- list holds member i's factor.
+use Rattle.refusals.specs.declared.Refusal.{Refusal}
 use Prim.Native.Nat.{ℕ, ◌-◌, ◌≤◌, ◌<◌}
 use native.Mathlib.Nat.{le_refl, le_of_mul-le-mul_left, mul-le-mul_right}
 use native.Mathlib.Omega.{arith}
@@ -7,8 +8,7 @@ use mathlib.Core.Path.{◌≡◌, subst, sym}
 use mathlib.Core.List.{List}
 use lib.Dec.{lit<}
 use lib.ListN.{length, get_or}
-use Rattle.refusals.specs.Grounds.{first_met}
-use Rattle.refusals.specs.declared.Checked.{Checked}
+use Rattle.refusals.specs.Grounds.{first_met, Checked, answer_number}
 use Rattle.book.specs.Fields.{members, scale_of}
 use Rattle.book.specs.BookGrounds.{Accepted}
 use Rattle.book.proofs.Rates.{scale_positive, rates_rise}
@@ -17,13 +17,11 @@ use Rattle.balance.specs.Chain.{chain_of}
 use Rattle.balance.specs.Balance.{G}
 use Rattle.balance.specs.Exact.{numerators, denominator}
 use Rattle.balance.specs.Promises.{FactorPromise}
-use Rattle.balance.specs.declared.FactorAnswer.{FactorAnswer}
 use Rattle.balance.proofs.AcceptedSound.{accepted_sound}
 use Rattle.balance.proofs.CallAnswers.{filled_passed, place_holds}
 use Rattle.balance.proofs.Equations.{ExactFactors, exact_solves}
 use Rattle.balance.proofs.Numerators.{denominator_pos}
-use Rattle.std.specs.Prelude.{pos}
-use Rattle.balance.specs.Factors.{answer_number}
+use Rattle.std.specs.Prelude.{pos, Result, Ok}
 use Rattle.balance.proofs.SoundFactors.{factor_promise}
 use Rattle.minutes.specs.Minutes.{start, minutes, rate_of}
 use Rattle.minutes.specs.Periods.{period_count, periods_grounds, factors_after, periods_answer, periods_list}
@@ -57,7 +55,7 @@ not_above periods book v i accepted lowest l =
     omega arith
 
 module _ (periods book list : List ℕ) {n : ℕ} (answered : answer_number (periods_answer periods book (length list)) ≡ pos n) where
-  passed : (first_met (periods_grounds periods book (length list)) ≡ Checked.Passed) × (members book ≡ n)
+  passed : (first_met (periods_grounds periods book (length list)) ≡ Ok tt) × (members book ≡ n)
   passed = filled_passed (first_met (periods_grounds periods book (length list))) (members book) n answered
 
   pub periods_accepted : Accepted book
@@ -99,7 +97,7 @@ none_above_parent periods book list n i answered l =
 
 -- What a call keeps that answers and leaves the list as defined.
 pub kept :
-    (periods book list : List ℕ) {answer : FactorAnswer} {now : List ℕ} →
+    (periods book list : List ℕ) {answer : Result ℕ Refusal} {now : List ℕ} →
     answer ≡ periods_answer periods book (length list) → now ≡ periods_list periods book list → PeriodsPromise periods book answer now
 kept periods book list answered left = rw (answered, left) (list_promise periods book list)
 

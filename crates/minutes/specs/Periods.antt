@@ -1,14 +1,13 @@
 -- The call: periods, a book and a lent list in; checks 3, 22, 9 to 19. The factors at the end go out as in the factor call.
-use Rattle.std.specs.Prelude.{ℕ, ◌+◌, ◌-◌, ◌/◌, ◌%◌, Bool, ◌||◌, List, [], ◌∷◌, ◌++◌, length, eqb, ltb}
-use Rattle.refusals.specs.Grounds.{Ground, ground_of, first_met}
+use Rattle.refusals.specs.declared.Refusal.{Refusal}
+use Rattle.std.specs.Prelude.{ℕ, ◌+◌, ◌-◌, ◌/◌, ◌%◌, Bool, ◌||◌, List, [], ◌∷◌, ◌++◌, length, eqb, ltb, Result}
+use Rattle.refusals.specs.Grounds.{Ground, ground_of, first_met, answer_if, written_if}
 use Rattle.refusals.specs.declared.Refusal.TheVariants.{RateTooHigh, PeriodsOutOfRange, ListTooShort}
 use Rattle.book.specs.Fields.{members, scale_of}
 use Rattle.numbers.specs.Tests.{outside, some_below}
 use Rattle.book.specs.BookGrounds.{book_grounds}
 use Rattle.book.specs.Rates.{max_rate, rates_at}
 use Rattle.balance.specs.Chain.{chain_of}
-use Rattle.balance.specs.Factors.{filled_if, written_if}
-use Rattle.balance.specs.declared.FactorAnswer.{FactorAnswer}
 use Rattle.minutes.specs.Minutes.{rate_of, minutes_of, after_periods}
 
 -- 1 to 32 periods of 1 to 1,440 minutes.
@@ -45,8 +44,8 @@ abbrev pub factors_after : List ℕ → List ℕ → List ℕ
 factors_after periods book =
     after_periods (scale_of book) (chain_of book) (rates_at book) (members book - 1) periods (period_count periods)
 
-abbrev pub periods_answer : List ℕ → List ℕ → ℕ → FactorAnswer
-periods_answer periods book capacity = filled_if (first_met (periods_grounds periods book capacity)) (members book)
+abbrev pub periods_answer : List ℕ → List ℕ → ℕ → Result ℕ Refusal
+periods_answer periods book capacity = answer_if (first_met (periods_grounds periods book capacity)) (members book)
 
 abbrev pub periods_list : List ℕ → List ℕ → List ℕ → List ℕ
 periods_list periods book list = written_if (first_met (periods_grounds periods book (length list))) (factors_after periods book) list

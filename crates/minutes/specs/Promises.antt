@@ -1,15 +1,15 @@
 -- What R-5 promises, for any number of minutes.
-use Rattle.std.specs.Prelude.{ℕ, pos, suc, ◌-◌, ◌*◌, ◌≤◌, ◌<◌, ◌≡◌, List, length, get_or}
+use Rattle.refusals.specs.declared.Refusal.{Refusal}
+use Rattle.refusals.specs.Grounds.{answer_number}
+use Rattle.std.specs.Prelude.{ℕ, pos, suc, ◌-◌, ◌*◌, ◌≤◌, ◌<◌, ◌≡◌, List, length, get_or, Result}
 use Rattle.book.specs.Fields.{members, scale_of}
 use Rattle.numbers.specs.Sums.{sum_below}
 use Rattle.book.specs.BookGrounds.{Accepted}
 use Rattle.book.specs.Rates.{rates_at}
 use Rattle.balance.specs.Chain.{Chain, chain_of}
-use Rattle.balance.specs.Factors.{answer_number}
 use Rattle.balance.specs.Sound.{Sound}
 use Rattle.balance.specs.Balance.{G}
 use Rattle.balance.specs.Exact.{numerator, denominator}
-use Rattle.balance.specs.declared.FactorAnswer.{FactorAnswer}
 use Rattle.minutes.specs.Minutes.{start, minutes, rate_of, minutes_of}
 use Rattle.minutes.specs.Periods.{period_count, periods_answer, periods_list}
 
@@ -24,7 +24,7 @@ pub record MinutePromise (scale : ℕ) (chain : Chain) (rate : ℕ → ℕ) (las
   pub not_above_steady : NotAboveSteady scale chain rate i (get_or (minutes scale chain rate last k (start last)) i 0)
 
 -- Of the list that a call leaves, by its answer: at rates of which none is below v, no factor is above the exact steady one at v.
-abbrev pub PeriodsPromise : List ℕ → List ℕ → FactorAnswer → List ℕ → Type 0
+abbrev pub PeriodsPromise : List ℕ → List ℕ → Result ℕ Refusal → List ℕ → Type 0
 PeriodsPromise periods book answer list =
     (v n i : ℕ) → ((p : ℕ) → p < period_count periods → v ≤ rate_of periods p) → answer_number answer ≡ pos n → i < n →
     NotAboveSteady (scale_of book) (chain_of book) (rates_at book v) i (get_or list i 0)

@@ -7,21 +7,19 @@ ghost use Rattle.minutes.specs.Periods.{max_minutes, period_count, period_rate_t
 
 use super::limits::{MAX_MINUTES, MAX_PERIODS};
 use book::{MAX_RATE, check_book, member_count};
-use refusals::{Checked, Refusal, or_else, refuse_if};
+use refusals::{Refusal, refuse_if};
 
 // The first ground for refusing the call, if there is one.
-pub(crate) fn check_periods(periods: &[u32], book: &[u8], capacity: usize) -> Checked
+#[tactic(auto, using(refusals::proofs::FirstMet::in_turn))]
+pub(crate) fn check_periods(periods: &[u32], book: &[u8], capacity: usize) -> Result<(), Refusal>
     ensures { result ≡ first_met (periods_grounds periods.now book.now capacity) }
 {
-    let short = capacity < member_count(book) as usize;
-    let last = refuse_if(short, Refusal::ListTooShort, Checked::Passed);
-    let later = or_else(check_book(book), last);
-    let out_of_range = periods_out_of_range(periods);
-    let too_high = some_rate_too_high(periods);
+    refuse_if(some_rate_too_high(periods), Refusal::RateTooHigh)?;
+    refuse_if(periods_out_of_range(periods), Refusal::PeriodsOutOfRange)?;
+    check_book(book)?;
     refuse_if(
-        too_high,
-        Refusal::RateTooHigh,
-        refuse_if(out_of_range, Refusal::PeriodsOutOfRange, later),
+        capacity < member_count(book) as usize,
+        Refusal::ListTooShort,
     )
 }
 

@@ -10,26 +10,20 @@ ghost use Rattle.std.specs.Prelude.{◌≡◌, length};
 ghost use Rattle.minutes.specs.Periods.{periods_answer, periods_list};
 ghost use Rattle.minutes.specs.Promises.{PeriodsPromise};
 
-use balance::FactorAnswer;
 use book::member_count;
 use checks::check_periods;
 pub use limits::{MAX_MINUTES, MAX_PERIODS};
 use passing::pass_periods;
-use refusals::Checked;
+use refusals::Refusal;
 
-// The factors of every member after all the periods, each a rate and so many minutes, into the first places of `out`; a refusal leaves
-// `out` as it was.
-pub fn factors_after(periods: &[u32], book: &[u8], out: &mut [u64]) -> FactorAnswer
+// The factors of every member after all the periods, each a rate and so many minutes, into the first places of `out`:
+// how many they are; a refusal leaves `out` as it was.
+pub fn factors_after(periods: &[u32], book: &[u8], out: &mut [u64]) -> Result<usize, Refusal>
     ensures answered { result ≡ periods_answer periods.now book.now (length out.old) }
     ensures written { out.new ≡ periods_list periods.now book.now out.old }
     ensures sound { PeriodsPromise periods.now book.now result out.new }
 {
-    let checked = check_periods(periods, book, out.len());
-    match checked {
-        Checked::Refused(refusal) => FactorAnswer::Refused(refusal),
-        Checked::Passed => {
-            pass_periods(periods, book, out);
-            FactorAnswer::Filled(member_count(book) as usize)
-        }
-    }
+    check_periods(periods, book, out.len())?;
+    pass_periods(periods, book, out);
+    Ok(member_count(book) as usize)
 }

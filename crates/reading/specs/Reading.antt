@@ -1,8 +1,8 @@
 -- From a reading to the concentration C in whole mBq/m³ (document 01, "Reading"), and grounds 7 and 8.
-use Rattle.std.specs.Prelude.{ℕ, zero, suc, ◌+◌, ◌-◌, ◌*◌, ◌/◌, ◌<◌, ◌≤◌, Bool, true, cond, ◌||◌, ltb, Float}
+use Rattle.refusals.specs.Grounds.{Checked}
+use Rattle.std.specs.Prelude.{ℕ, zero, suc, ◌+◌, ◌-◌, ◌*◌, ◌/◌, ◌<◌, ◌≤◌, Bool, true, cond, ◌||◌, ltb, Float, Ok, Err}
 use Rattle.std.specs.Float.{nan, inf, fin, binary64}
 use Rattle.std.specs.Float.Ieee.{up, down, of_bits}
-use Rattle.refusals.specs.declared.Checked.{Checked}
 use Rattle.refusals.specs.declared.Refusal.{Refusal}
 use Rattle.reading.specs.declared.amounts.Amount.{Amount}
 use Rattle.reading.specs.declared.amounts.Reading.{Reading}
@@ -139,11 +139,11 @@ intake_answer unit medium af reading =
 
 -- What either answer says of the list of grounds.
 abbrev pub whole_checked : Whole → Checked
-whole_checked (Whole.Number n) = Checked.Passed
-whole_checked Whole.TooLarge = Checked.Refused Refusal.ConcentrationTooHigh
-whole_checked Whole.Unusable = Checked.Refused Refusal.ReadingUnusable
+whole_checked (Whole.Number n) = (Ok tt)
+whole_checked Whole.TooLarge = Err Refusal.ConcentrationTooHigh
+whole_checked Whole.Unusable = Err Refusal.ReadingUnusable
 
 abbrev pub intake_checked : Intake → Checked
-intake_checked (Intake.Concentration c) = Checked.Passed
-intake_checked Intake.TooHigh = Checked.Refused Refusal.ConcentrationTooHigh
-intake_checked Intake.Unusable = Checked.Refused Refusal.ReadingUnusable
+intake_checked (Intake.Concentration c) = (Ok tt)
+intake_checked Intake.TooHigh = Err Refusal.ConcentrationTooHigh
+intake_checked Intake.Unusable = Err Refusal.ReadingUnusable

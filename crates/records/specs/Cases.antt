@@ -1,13 +1,12 @@
 -- What is written of a recorded case of each kind, given its body. Numbers in a body are little-endian.
-use Rattle.std.specs.Prelude.{ℕ, ◌+◌, ◌*◌, min, List, [], ◌∷◌, ◌++◌, length, take, drop, replicate}
+use Rattle.refusals.specs.declared.Refusal.{Refusal}
+use Rattle.std.specs.Prelude.{ℕ, ◌+◌, ◌*◌, min, List, [], ◌∷◌, ◌++◌, length, take, drop, replicate, Result, Ok, Err}
 use Rattle.refusals.specs.Grounds.{refusal_number}
 use Rattle.numbers.specs.Bytes.{u16_at, u32_at}
 use Rattle.book.specs.Held.{up_to}
 use Rattle.balance.specs.Factors.{factor_answer, factor_list}
-use Rattle.balance.specs.declared.FactorAnswer.{FactorAnswer}
 use Rattle.minutes.specs.Periods.{periods_answer, periods_list}
 use Rattle.tables.specs.Answers.{table_answer, table_buffer}
-use Rattle.tables.specs.declared.TableAnswer.{TableAnswer}
 use Rattle.text.specs.Words.{ascii, decimal, line_feed, numbered}
 
 -- The first record of some bytes, as much of it as there is room for: a length in two bytes, and so many bytes.
@@ -31,11 +30,11 @@ places [] = []
 places (place ∷ list) = ascii " " ++ decimal place ++ places list
 
 -- One line: how many places were filled or the refusal's number, a colon, and every place of the list after the call.
-abbrev pub counted : FactorAnswer → List ℕ
-counted (FactorAnswer.Filled n) = ascii "filled " ++ decimal n
-counted (FactorAnswer.Refused refusal) = ascii "refused " ++ decimal (refusal_number refusal)
+abbrev pub counted : Result ℕ Refusal → List ℕ
+counted (Ok n) = ascii "filled " ++ decimal n
+counted (Err refusal) = ascii "refused " ++ decimal (refusal_number refusal)
 
-abbrev pub list_line : FactorAnswer → List ℕ → List ℕ
+abbrev pub list_line : Result ℕ Refusal → List ℕ → List ℕ
 list_line answer list = counted answer ++ ascii " :" ++ places list ++ line_feed
 
 -- The factor call: the rate (u32), how many places the lent list has (u16), the book.
@@ -56,9 +55,9 @@ opening_case body =
     list_line (periods_answer periods book (length list)) (periods_list periods book list)
 
 -- Two lines: the text's length or the refusal's number; and every byte of the buffer after the call.
-abbrev pub measured : TableAnswer → List ℕ
-measured (TableAnswer.Written n) = numbered (ascii "written ") n
-measured (TableAnswer.Refused refusal) = numbered (ascii "refused ") (refusal_number refusal)
+abbrev pub measured : Result ℕ Refusal → List ℕ
+measured (Ok n) = numbered (ascii "written ") n
+measured (Err refusal) = numbered (ascii "refused ") (refusal_number refusal)
 
 -- The table call: how many bytes the lent buffer has (u32), how many rates there are (u16), the rates (u32 each), the
 -- book.

@@ -1,18 +1,17 @@
 -- The first ground met in two lists joined is the first of the earlier list, or where that passes the first of the later one.
 -- Where none is met, each condition is false.
+use Rattle.std.specs.Prelude.{Ok, Err}
 use native.Mathlib.Omega.{arith}
 use Prim.Native.Nat.{ℕ}
 use mathlib.Core.Path.{◌≡◌, refl, ap, sym, ◌∙◌}
 use mathlib.Core.Bool.{Bool, true, false, true≢false, cond, ◌||◌}
 use mathlib.Core.List.{List, [], ◌∷◌, ◌++◌}
-use Rattle.refusals.specs.Grounds.{Ground, first_met, or_else}
+use Rattle.refusals.specs.Grounds.{Ground, first_met, or_else, Checked}
 use Rattle.refusals.specs.declared.Refusal.{Refusal}
-use Rattle.refusals.specs.declared.Checked.{Checked}
-use Rattle.refusals.specs.declared.Checked.TheVariants.{Passed, Refused}
 
 -- A choice that comes first stays first.
 choice_first : (met : Bool) (refusal : Refusal) (rest later : Checked) →
-    or_else (cond met (Refused refusal) rest) later ≡ cond met (Refused refusal) (or_else rest later)
+    or_else (cond met (Err refusal) rest) later ≡ cond met (Err refusal) (or_else rest later)
 choice_first true refusal rest later = refl
 choice_first false refusal rest later = refl
 
@@ -20,31 +19,34 @@ choice_first false refusal rest later = refl
 pub first_of_both : (gs hs : List Ground) → first_met (gs ++ hs) ≡ or_else (first_met gs) (first_met hs)
 first_of_both [] hs = refl
 first_of_both (g ∷ gs) hs =
-    ap (cond g.met (Refused g.refusal)) (first_of_both gs hs) ∙ sym (choice_first g.met g.refusal (first_met gs) (first_met hs))
+    ap (cond g.met (Err g.refusal)) (first_of_both gs hs) ∙ sym (choice_first g.met g.refusal (first_met gs) (first_met hs))
 
 -- What a refusal or the later checks say, where the later checks agree with the rest of the grounds.
 pub choice :
     {r later rest : Checked} {met condition : Bool} (refusal : Refusal) →
-    r ≡ cond met (Refused refusal) later → met ≡ condition → later ≡ rest → r ≡ cond condition (Refused refusal) rest
+    r ≡ cond met (Err refusal) later → met ≡ condition → later ≡ rest → r ≡ cond condition (Err refusal) rest
 choice refusal e m l = cc
 
 -- What checks find that are made in this order: one, those of a list, and later ones.
 pub in_order :
     (first : Refusal) (high : Bool) (middle later : List Ground) {met : Bool} {r found between last : Checked} →
-    r ≡ cond met (Refused first) found → met ≡ high → found ≡ or_else between last → between ≡ first_met middle → last ≡ first_met later →
-    r ≡ cond high (Refused first) (first_met (middle ++ later))
+    r ≡ cond met (Err first) found → met ≡ high → found ≡ or_else between last → between ≡ first_met middle → last ≡ first_met later →
+    r ≡ cond high (Err first) (first_met (middle ++ later))
 in_order first high middle later e m f b l = rw (first_of_both middle later) (cc)
 
 -- One ground is not met, and the rest pass.
-pub not_met : (met : Bool) (refusal : Refusal) (rest : Checked) → cond met (Refused refusal) rest ≡ Passed → (met ≡ false) × (rest ≡ Passed)
+pub not_met : (met : Bool) (refusal : Refusal) (rest : Checked) → cond met (Err refusal) rest ≡ Ok tt → (met ≡ false) × (rest ≡ Ok tt)
 not_met true refusal rest e = absurd (let z : ◌≡◌ {A = ℕ} 0 1 = cc in omega arith)
 not_met false refusal rest e = (refl, e)
 
-pub both_pass : (earlier later : Checked) → or_else earlier later ≡ Passed → (earlier ≡ Passed) × (later ≡ Passed)
-both_pass (Checked.Refused r) later e = absurd (let z : ◌≡◌ {A = ℕ} 0 1 = cc in omega arith)
-both_pass Checked.Passed later e = (refl, e)
+pub both_pass : (earlier later : Checked) → or_else earlier later ≡ Ok tt → (earlier ≡ Ok tt) × (later ≡ Ok tt)
+both_pass (Err r) later e = absurd (let z : ◌≡◌ {A = ℕ} 0 1 = cc in omega arith)
+both_pass (Ok tt) later e = (refl, e)
 
 -- A condition of two parts that is false has no part that is true.
 pub neither : (a b : Bool) → (a || b) ≡ false → (a ≡ false) × (b ≡ false)
 neither true b e = absurd (true≢false e)
 neither false b e = (refl, e)
+
+-- For calls whose checks are those of one list of grounds and then those of another.
+pub ruleset in_turn = (first_of_both)

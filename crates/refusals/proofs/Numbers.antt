@@ -1,5 +1,5 @@
 -- The numbers of the grounds are small, and none is 0, so that no refusal is answered as a count.
-use Rattle.std.proofs.Common.{◌≡◌, refl, ℕ, zero, suc, ◌<◌, ℤ, pos, neg_ℤ}
+use Rattle.std.proofs.Common.{◌≡◌, refl, ℕ, zero, suc, ◌<◌, pos, neg_ℤ}
 use native.Mathlib.Omega.{arith}
 use Rattle.refusals.specs.Grounds.{refusal_number, refused_number}
 use Rattle.refusals.specs.declared.Refusal.{Refusal}

@@ -1,8 +1,6 @@
 -- Numbered grounds for refusal (document 01, "Grounds for refusal, in checking order"), and the first that is met.
-use Rattle.std.specs.Prelude.{ℕ, ℤ, pos, neg_ℤ, Bool, cond, List, [], ◌∷◌}
+use Rattle.std.specs.Prelude.{ℕ, ℤ, pos, neg_ℤ, Bool, cond, Result, Ok, Err, List, [], ◌∷◌, ◌++◌, length, drop}
 use Rattle.refusals.specs.declared.Refusal.{Refusal}
-use Rattle.refusals.specs.declared.Checked.{Checked}
-use Rattle.refusals.specs.declared.Checked.TheVariants.{Passed, Refused}
 
 -- The number of each refusal: 1 to 19 are document 01's, later ones document 02's.
 abbrev pub refusal_number : Refusal → ℕ
@@ -40,12 +38,32 @@ pub record Ground : Type 0 where
 abbrev pub ground_of : Refusal → Bool → Ground
 ground_of r b = record { refusal = r; met = b }
 
+-- What checks find: nothing, or why something is refused.
+abbrev pub Checked : Type 0
+Checked = Result Unit Refusal
+
 -- The first ground that is met, in checking order.
 abbrev pub first_met : List Ground → Checked
-first_met [] = Passed
-first_met (g ∷ gs) = cond g.met (Refused g.refusal) (first_met gs)
+first_met [] = Ok tt
+first_met (g ∷ gs) = cond g.met (Err g.refusal) (first_met gs)
 
 -- What the earlier checks find, and where they pass what the later ones find.
 abbrev pub or_else : Checked → Checked → Checked
-or_else (Refused refusal) later = Refused refusal
-or_else Passed later = later
+or_else (Err refusal) later = Err refusal
+or_else (Ok _) later = later
+
+-- What a call answers: accepted, a number; a refusal is the refusal alone.
+abbrev pub answer_if : Checked → ℕ → Result ℕ Refusal
+answer_if (Ok _) n = Ok n
+answer_if (Err refusal) n = Err refusal
+
+-- What it leaves in a lent list: accepted, the first places hold what it wrote and no others are written; a refusal leaves the list
+-- as it was.
+abbrev pub written_if : Checked → List ℕ → List ℕ → List ℕ
+written_if (Ok _) written list = written ++ drop (length written) list
+written_if (Err _) written list = list
+
+-- The number of an answer, as every caller gets it: the number itself, or minus the number of the refusal.
+abbrev pub answer_number : Result ℕ Refusal → ℤ
+answer_number (Ok n) = pos n
+answer_number (Err refusal) = refused_number refusal

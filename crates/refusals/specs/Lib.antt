@@ -1,1 +1,2 @@
 pub mod Grounds
+pub mod Printed

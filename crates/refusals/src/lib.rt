@@ -3,14 +3,10 @@
 
 mod number;
 
-ghost use Rattle.std.specs.Prelude.{◌≡◌, cond};
-ghost use Rattle.refusals.specs.Grounds.{or_else};
-ghost use Rattle.refusals.specs.declared.Checked.TheVariants.{Refused};
-
-pub use number::refusal_number;
+ghost use Rattle.std.specs.Prelude.{◌≡◌, cond, Ok, Err};
 
 // Why something is refused, in checking order; `refusal_number` of specs/Grounds.antt gives each its number.
-#[derive(Clone, Copy)]
+#[derive(Clone, Copy, Debug, PartialEq, Eq)]
 pub enum Refusal {
     JobTooShort,
     CodeUnknown,
@@ -36,29 +32,9 @@ pub enum Refusal {
     PeriodsOutOfRange,
 }
 
-// What checks find.
-#[derive(Clone, Copy)]
-pub enum Checked {
-    Passed,
-    Refused(Refusal),
-}
-
-// The refusal where its ground is met, and otherwise what the later checks find.
-pub fn refuse_if(met: bool, refusal: Refusal, later: Checked) -> Checked
-    ensures { result ≡ cond met (Refused refusal) later }
+// The refusal where its ground is met; a call goes on with `?`, and so answers the first that is.
+pub fn refuse_if(met: bool, refusal: Refusal) -> Result<(), Refusal>
+    ensures { result ≡ cond met (Err refusal) (Ok tt) }
 {
-    if met {
-        return Checked::Refused(refusal);
-    }
-    later
-}
-
-// What the earlier checks find, and where they pass what the later ones find.
-pub fn or_else(earlier: Checked, later: Checked) -> Checked
-    ensures { result ≡ or_else earlier later }
-{
-    match earlier {
-        Checked::Refused(refusal) => Checked::Refused(refusal),
-        Checked::Passed => later,
-    }
+    if met { Err(refusal) } else { Ok(()) }
 }

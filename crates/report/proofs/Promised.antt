@@ -2,11 +2,10 @@
 -- the figures that it is answered with.
 use Rattle.std.proofs.Common.{◌≡◌, ℕ, List, ◌++◌, take, ap, ◌∙◌, append_assoc}
 use Rattle.text.specs.Words.{line}
-use Rattle.screening.specs.Screening.{answer_of}
 use Rattle.verdict.specs.declared.verdict.Verdict.{Verdict}
 use Rattle.ventilation.specs.JobWithRate.{Judged}
 use Rattle.ventilation.proofs.Promised.{ventilation_promises}
-use Rattle.report.specs.Report.{factor_lines, verdict_line, working_lines, outcome_lines, text_of}
+use Rattle.report.specs.Report.{factor_lines, verdict_line, working_lines, text_of}
 use Rattle.report.specs.Reports.{Reports}
 use Rattle.report.specs.Promises.{ReportPromises}
 use Rattle.report.proofs.ReportFits.{report_fits, report_some}
@@ -19,14 +18,15 @@ regroup a b c d e = simp append_assoc
 reports : (job : List ℕ) (verdict : Verdict) → Judged job verdict → Reports job verdict
 unfolding text_of
 reports job verdict judged =
-    let factors = take (answer_of job).count (answer_of job).factors in
-    let first = line "concentration " judged.figures.concentration in
-    let level = line "level " judged.figures.level in
-    let working = working_lines judged.figures.working in
+    let answer = judged.answer in
+    let factors = take answer.count answer.factors in
+    let first = line "concentration " answer.figures.concentration in
+    let level = line "level " answer.figures.level in
+    let working = working_lines answer.figures.working in
     record {
       answered = judged;
       text =
-          ap (λ outcome. outcome_lines outcome factors) judged.accepted
+          ap text_of judged.accepted
           ∙ ap (λ v. factor_lines factors ++ (first ++ verdict_line v ++ level ++ working)) judged.given
           ∙ regroup (factor_lines factors) first (verdict_line verdict) level working;
     }

@@ -10,10 +10,12 @@ use Rattle.text.specs.Words.{decimal}
 use Rattle.text.proofs.Digits.{decimal_at_most}
 use Rattle.text.proofs.Pieces.{each_more, each_at_most}
 use Rattle.refusals.specs.Grounds.{refusal_number}
-use Rattle.report.specs.Report.{factor_line, factor_lines, verdict_line, working_lines, figure_lines, outcome_lines}
+use Rattle.report.specs.Report.{factor_line, factor_lines, verdict_line, working_lines, figure_lines, text_of}
 use Rattle.report.specs.Report.{factor_line_room, working_room, figures_room, report_room}
 use Rattle.screening.specs.declared.job.Figures.{Figures}
-use Rattle.screening.specs.declared.job.Outcome.{Outcome}
+use Rattle.screening.specs.declared.job.Answer.{Answer}
+use Rattle.refusals.specs.declared.Refusal.{Refusal}
+use Rattle.std.specs.Prelude.{Result, Ok, Err}
 use Rattle.verdict.specs.declared.verdict.Verdict.{Verdict}
 use Rattle.verdict.specs.declared.verdict.Verdict.TheVariants.{Below, Close, Above}
 use Rattle.verdict.specs.declared.working.WorkingLevels.{WorkingLevels}
@@ -68,16 +70,19 @@ figures_at_most figures =
     omega (arith, figures_measured figures)
 
 pub lines_at_most :
-    (outcome : Outcome) (factors : List ℕ) → length factors ≤ max_members →
-    length (outcome_lines outcome factors) ≤ report_room
-lines_at_most (Outcome.Screened figures) factors few =
-    let both = length-append (factor_lines factors) (figure_lines figures) in
-    omega (arith, factor_lines_at_most factors, figures_at_most figures)
-lines_at_most (Outcome.Refused refusal) factors few =
+    (result : Result Answer Refusal) → ((answer : Answer) → result ≡ Ok answer → answer.count ≤ max_members) →
+    length (text_of result) ≤ report_room
+unfolding text_of
+lines_at_most (Ok answer) few =
+    let factors = take answer.count answer.factors in
+    let both = length-append (factor_lines factors) (figure_lines answer.figures) in
+    omega (arith, length-take answer.count answer.factors, few answer refl, factor_lines_at_most factors, figures_at_most answer.figures)
+lines_at_most (Err refusal) few =
     simp length-append (omega (arith, decimal_at_most (refusal_number refusal)))
 
-pub lines_some : (outcome : Outcome) (factors : List ℕ) → 0 < length (outcome_lines outcome factors)
-lines_some (Outcome.Screened figures) factors =
-    let both = length-append (factor_lines factors) (figure_lines figures) in
-    omega (arith, figures_measured figures)
-lines_some (Outcome.Refused refusal) factors = omega arith
+pub lines_some : (result : Result Answer Refusal) → 0 < length (text_of result)
+unfolding text_of
+lines_some (Ok answer) =
+    let both = length-append (factor_lines (take answer.count answer.factors)) (figure_lines answer.figures) in
+    omega (arith, figures_measured answer.figures)
+lines_some (Err refusal) = omega arith

@@ -1,6 +1,5 @@
 -- What is promised of the texts.
-use Rattle.std.specs.Prelude.{ℕ, pos, ◌+◌, ◌≤◌, ◌<◌, ◌≡◌, List, length, take}
-use Rattle.refusals.specs.declared.Checked.{Checked}
+use Rattle.std.specs.Prelude.{ℕ, pos, ◌+◌, ◌≤◌, ◌<◌, ◌≡◌, List, length, take, Ok}
 use Rattle.book.specs.Rates.{max_rate}
 use Rattle.screening.specs.Job.{longest_job, book_of}
 use Rattle.screening.specs.JobGrounds.{checked_job}
@@ -21,7 +20,7 @@ pub record ReportPromises : Type 0 where
   pub long_line : (job : List ℕ) → longest_job < length job → rate_line (take (longest_job + 1) job) ≡ rate_line job
   -- the report of an accepted job with another rate written into it has the verdict on it at that rate
   pub at_rate :
-      (job : List ℕ) (w : ℕ) → checked_job job (book_of job) ≡ Checked.Passed → w ≤ max_rate →
+      (job : List ℕ) (w : ℕ) → checked_job job (book_of job) ≡ Ok tt → w ≤ max_rate →
       Reports (with_rate w job) (verdict_on job w)
   -- so where the lowest rate is v, running the job at v prints 'below'
   pub at_answer :

@@ -1,5 +1,5 @@
 -- The text that `screen` writes.
-use Rattle.std.specs.Prelude.{ℕ, ◌+◌, ◌*◌, List, ◌++◌, length, take}
+use Rattle.std.specs.Prelude.{ℕ, ◌+◌, ◌*◌, List, ◌++◌, length, take, Result, Ok, Err}
 use Prim.Native.String.{String}
 use Rattle.book.specs.Limits.{max_members}
 use Rattle.text.specs.Words.{ascii, most_digits, decimal, line_feed, line, each}
@@ -8,7 +8,6 @@ use Rattle.refusals.specs.declared.Refusal.{Refusal}
 use Rattle.screening.specs.Screening.{answer_of}
 use Rattle.screening.specs.declared.job.Answer.{Answer}
 use Rattle.screening.specs.declared.job.Figures.{Figures}
-use Rattle.screening.specs.declared.job.Outcome.{Outcome}
 use Rattle.verdict.specs.declared.verdict.Verdict.{Verdict}
 use Rattle.verdict.specs.declared.verdict.Verdict.TheVariants.{Below, Close, Above}
 use Rattle.verdict.specs.declared.working.WorkingLevels.{WorkingLevels}
@@ -45,12 +44,12 @@ abbrev pub refused_line : Refusal → List ℕ
 refused_line refusal = line "refused " (refusal_number refusal)
 
 -- One factor line a member, then the figures. A refused job has one line only.
-abbrev pub outcome_lines : Outcome → List ℕ → List ℕ
-outcome_lines (Outcome.Screened figures) factors = factor_lines factors ++ figure_lines figures
-outcome_lines (Outcome.Refused refusal) factors = refused_line refusal
+abbrev pub answer_lines : Answer → List ℕ
+answer_lines answer = factor_lines (take answer.count answer.factors) ++ figure_lines answer.figures
 
-unfoldable pub text_of : Answer → List ℕ
-text_of answer = outcome_lines answer.outcome (take answer.count answer.factors)
+unfoldable pub text_of : Result Answer Refusal → List ℕ
+text_of (Ok answer) = answer_lines answer
+text_of (Err refusal) = refused_line refusal
 
 -- What `screen` writes for a job.
 abbrev pub report_of : List ℕ → List ℕ

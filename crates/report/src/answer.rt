@@ -1,5 +1,5 @@
 // The text of an answer.
-ghost use Rattle.std.specs.Prelude.{◌≤◌, min, ◌≡◌, ◌++◌, length};
+ghost use Rattle.std.specs.Prelude.{◌≤◌, ◌≡◌, ◌++◌, length};
 ghost use Rattle.book.specs.Limits.{max_members};
 ghost use Rattle.text.specs.Words.{line};
 ghost use Rattle.text.specs.Lent.{length_written, bytes_written};
@@ -8,8 +8,8 @@ ghost use Rattle.report.specs.Report.{factor_lines, figure_lines, text_of};
 use crate::lengths::{REFUSED_WORDS, factor_lines_length, figures_length};
 use crate::lines::{put_factor_lines, put_figures};
 use book::MAX_MEMBERS;
-use refusals::refusal_number;
-use screening::{Answer, Figures, Outcome};
+use refusals::Refusal;
+use screening::{Answer, Figures};
 use text::{decimal_length, put_line};
 
 // What is answered where a text has no room. No text is empty.
@@ -17,27 +17,18 @@ const NO_ROOM: usize = 0;
 
 // What `screen` writes of an answer, to the start of `out`, and its length; where there is no room for all of it 0,
 // with `out` as it was.
-pub fn write_answer(answer: Answer, out: &mut [u8]) -> usize
-    ensures answered { result ≡ length_written (text_of answer) (length out.old) }
-    ensures written { out.new ≡ bytes_written (text_of answer) out.old }
+#[tactic(auto, using(std::proofs::lemmas::List::take_min), unfolding(crate::specs::Report::text_of))]
+pub fn write_answer(answered: Result<Answer, Refusal>, out: &mut [u8]) -> usize
+    ensures answered { result ≡ length_written (text_of answered) (length out.old) }
+    ensures written { out.new ≡ bytes_written (text_of answered) out.old }
 {
-    let outcome = answer.outcome;
-    let factors = answer.factors;
-    let count = at_most_members(answer.count);
-    match outcome {
-        Outcome::Screened(figures) => write_screened(&factors[..count], figures, out),
-        Outcome::Refused(refusal) => write_refused(refusal_number(refusal), out),
-    }
-}
-
-// An answer made by hand can count more members than it has places for.
-fn at_most_members(count: usize) -> usize
-    ensures { result ≡ min count max_members }
-{
-    if count < MAX_MEMBERS {
-        count
-    } else {
-        MAX_MEMBERS
+    match answered {
+        Ok(answer) => {
+            // An answer made by hand can count more members than it has places for.
+            let count = answer.count.min(MAX_MEMBERS);
+            write_screened(&answer.factors[..count], answer.figures, out)
+        }
+        Err(refusal) => write_refused(u64::from(refusal), out),
     }
 }
 

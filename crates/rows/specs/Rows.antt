@@ -1,6 +1,7 @@
 -- The rows of document 01 that are marked for the check, restated in quarter hours (document 02, R-1), and those of
 -- dose by the guide's fractions (R-2), of a table's entries (R-3), of minutes from a shut room (R-5) and of lowest
 -- rates (R-6): one list, one computation over the definitions.
+use Rattle.refusals.specs.Grounds.{answer_number}
 use Rattle.std.specs.Prelude.{ℕ, suc, ℤ, pos, negsuc, ◌*◌, ◌/◌, Bool, true, false, ◌&&◌, ◌≡◌, refl, eqb, nat_le}
 use Rattle.std.specs.Prelude.{List, [], ◌∷◌, ◌++◌, replicate, length}
 use Prim.Native.String.{String}
@@ -14,12 +15,12 @@ use Rattle.book.specs.BookGrounds.{book_too_short, count_out_of_range, book_leng
 use Rattle.book.specs.BookGrounds.{feed_out_of_range, walk, occurrences, feed_not_once, feeds_misplaced, feed_not_from_lower}
 use Rattle.book.specs.BookGrounds.{shares_out_too_high}
 use Rattle.balance.specs.Balance.{G, in_member_order, reported}
-use Rattle.balance.specs.Factors.{factor_answer, factor_list, answer_number}
+use Rattle.balance.specs.Factors.{factor_answer, factor_list}
 use Rattle.minutes.specs.Minutes.{minute, minutes, after_periods}
 use Rattle.minutes.specs.Periods.{period_rate_too_high, periods_out_of_range, periods_answer, periods_list}
 use Rattle.text.specs.Words.{ascii, decimal, line_feed}
 use Rattle.entry.specs.Entry.{exponent_up_to, entry_of}
-use Rattle.tables.specs.Answers.{some_rate_too_high, table_answer, table_buffer, table_answer_number}
+use Rattle.tables.specs.Answers.{some_rate_too_high, table_answer, table_buffer}
 use Rattle.reading.specs.Reading.{amount_of, medium_of, whole, whole_answer, reading_unusable, concentration_too_high}
 use Rattle.reading.specs.Reading.{intake_answer}
 use Rattle.reading.specs.declared.amounts.Intake.{Intake}
@@ -171,7 +172,7 @@ holds (judged job v) = verdict_is (answer_of job).outcome v
 holds (levelled job n) = level_is (answer_of job).outcome n
 holds (entered factor text) = same_list (entry_of factor) (ascii text)
 holds (tabled rates book text) =
-    counts (table_answer_number (table_answer rates book (length (lines text)))) (length (lines text))
+    counts (answer_number (table_answer rates book (length (lines text)))) (length (lines text))
     && same_list (table_buffer rates book (replicate (length (lines text)) 0)) (lines text)
 holds (aired periods book expected) =
     counts (answer_number (periods_answer periods book (length expected))) (length expected)

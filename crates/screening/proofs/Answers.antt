@@ -1,11 +1,13 @@
 -- What an answer with figures says: the checks passed, and the figures are the definition's. So its verdict keeps demand 3's promise,
 -- and of two jobs that differ in the rate alone the one with the higher rate has no worse verdict.
+use Rattle.refusals.specs.declared.Refusal.{Refusal}
+use Rattle.refusals.specs.Grounds.{Checked}
+use Rattle.std.specs.Prelude.{Ok, Err, Result}
 use Prim.Native.Nat.{ℕ, ◌≤◌, ◌<◌}
 use native.Mathlib.Omega.{arith}
 use mathlib.Core.Path.{◌≡◌, refl, ap, sym, subst, ◌∙◌}
 use mathlib.Core.List.{List}
 use lib.ListN.{drop}
-use Rattle.refusals.specs.declared.Checked.{Checked}
 use Rattle.book.specs.Fields.{coefficient}
 use Rattle.exposure.specs.Totals.{Z}
 use Rattle.exposure.proofs.WithinLimits.{child_years}
@@ -17,7 +19,6 @@ use Rattle.verdict.specs.CommonFactor.{Unchanged}
 use Rattle.screening.specs.Promises.{AnswerPromise}
 use Rattle.screening.specs.declared.job.Answer.{Answer}
 use Rattle.screening.specs.declared.job.Figures.{Figures}
-use Rattle.screening.specs.declared.job.Outcome.{Outcome}
 use Rattle.verdict.specs.declared.verdict.Criterion.{Criterion}
 use Rattle.verdict.specs.declared.verdict.Verdict.{Verdict}
 use Rattle.screening.proofs.JobChecks.{JobPasses, job_passes}
@@ -32,14 +33,17 @@ abbrev pub judged : Criterion → List ℕ → ℕ → ℕ → Verdict
 judged by book v C = verdict_at (assessment_at by book (coefficient book) v) C
 
 screened_passed :
-    (found : Checked) (job book : List ℕ) (figures : Figures) → (answer_for found job book).outcome ≡ Outcome.Screened figures →
-    (found ≡ Checked.Passed) × (figures ≡ figures_of job book)
-screened_passed Checked.Passed job book figures e = (refl, cc)
-screened_passed (Checked.Refused r) job book figures e = absurd (let z : ◌≡◌ {A = ℕ} 0 1 = cc in omega arith)
+    (found : Checked) (job book : List ℕ) (answer : Answer) → answer_for found job book ≡ Ok answer →
+    (found ≡ Ok tt) × (answer.figures ≡ figures_of job book)
+screened_passed (Ok tt) job book answer e = (refl, cc)
+screened_passed (Err r) job book answer e = absurd (let z : ◌≡◌ {A = ℕ} 0 1 = cc in omega arith)
 
-module _ (job : List ℕ) (figures : Figures) (answered : (answer_of job).outcome ≡ Outcome.Screened figures) where
-  screened : (checked_job job (book_of job) ≡ Checked.Passed) × (figures ≡ figures_of job (book_of job))
-  screened = screened_passed (checked_job job (book_of job)) job (book_of job) figures answered
+module _ (job : List ℕ) (answer : Answer) (answered : answer_of job ≡ Ok answer) where
+  abbrev figures : Figures
+  figures = answer.figures
+
+  screened : (checked_job job (book_of job) ≡ Ok tt) × (figures ≡ figures_of job (book_of job))
+  screened = screened_passed (checked_job job (book_of job)) job (book_of job) answer answered
 
   passes : JobPasses job (book_of job)
   passes = job_passes job (book_of job) screened.0
@@ -72,28 +76,28 @@ module _ (job : List ℕ) (figures : Figures) (answered : (answer_of job).outcom
   some_years = (child_years (exposure_of job) passes.fields.exposure).2
 
 pub answer_promise : (job : List ℕ) → AnswerPromise job (answer_of job)
-answer_promise job figures answered =
+answer_promise job answer answered =
     let book = book_of job in
     let promise =
-    verdict_promise (criterion_of job) book (coefficient book) (rate job) (concentration_of job) (passes job figures answered).accepted (passes job figures answered).fields.rate
+    verdict_promise (criterion_of job) book (coefficient book) (rate job) (concentration_of job) (passes job answer answered).accepted (passes job answer answered).fields.rate
     in
-    rw (concentration_is job figures answered, verdict_is job figures answered) promise
+    rw (concentration_is job answer answered, verdict_is job answer answered) promise
 
 -- What an answer keeps that is the definition's.
-pub kept : (job : List ℕ) {answer : Answer} → answer ≡ answer_of job → AnswerPromise job answer
+pub kept : (job : List ℕ) {answer : Result Answer Refusal} → answer ≡ answer_of job → AnswerPromise job answer
 kept job e = subst (AnswerPromise job) (sym e) (answer_promise job)
 
 module _ (job other : List ℕ) (same : drop rate_length job ≡ drop rate_length other) where
   pub no_worse_answer :
-      (figures others : Figures) → rate job ≤ rate other → (answer_of job).outcome ≡ Outcome.Screened figures →
-      (answer_of other).outcome ≡ Outcome.Screened others → verdict_order others.verdict ≤ verdict_order figures.verdict
-  no_worse_answer figures others rises answered other-answered =
+      (answer another : Answer) → rate job ≤ rate other → answer_of job ≡ Ok answer → answer_of other ≡ Ok another →
+      verdict_order another.figures.verdict ≤ verdict_order answer.figures.verdict
+  no_worse_answer answer another rises answered other-answered =
       let book = book_of other in
       let falls =
-      no_worse book (coefficient book) (rate job) (rate other) (passes other others other-answered).accepted rises (passes other others other-answered).fields.rate (criterion_of other) (concentration_of other)
+      no_worse book (coefficient book) (rate job) (rate other) (passes other another other-answered).accepted rises (passes other another other-answered).fields.rate (criterion_of other) (concentration_of other)
       in
       let here =
-      verdict_is job figures answered
+      verdict_is job answer answered
       ∙ judged_same job other same (λ by b. judged by b (rate job))
       in
-      rw (verdict_is other others other-answered, here) falls
+      rw (verdict_is other another other-answered, here) falls

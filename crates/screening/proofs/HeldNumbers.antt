@@ -19,7 +19,6 @@ use Rattle.verdict.specs.HeldNumbers.{number_in, assessment_in, judged_on, alpha
 use Rattle.screening.specs.Private.HeldNumbers.{figures_by, figures_in, Figurable}
 use Rattle.screening.specs.declared.job.Answer.{Answer}
 use Rattle.screening.specs.declared.job.Figures.{Figures}
-use Rattle.screening.specs.declared.job.Outcome.{Outcome}
 use Rattle.verdict.specs.declared.verdict.Criterion.{Criterion}
 use Rattle.screening.proofs.FactorsAtRate.{factor_array, ranges, factor_is, summable}
 use Rattle.verdict.proofs.SameAssessment.{alpha_same, judged_same}
@@ -106,6 +105,6 @@ module _ {by : Criterion} {v C : ℕ} {book : List ℕ} {held : HeldBook} (asked
         {figures : Figures}
         → figures ≡ figures_in by C held.chain.members held.divisor held.coefficients made zeroed
         → ◌≡◌ {A = Answer}
-        (record { outcome = Outcome.Screened figures; factors = made; count = held.chain.members })
+        (record { figures = figures; factors = made; count = held.chain.members })
         (screened_at by book (coefficient book) v C)
     screened_is found = rw (found ∙ figures_are, count_is, at_rate)

@@ -1,5 +1,6 @@
 -- What the checks of a job find, part by part: of lists joined, the earlier list's grounds come first. What passing them says of its numbers:
 -- no ground is met, so each condition is false, and a false comparison gives an order.
+use Rattle.std.specs.Prelude.{Ok, Err}
 use Prim.Native.Nat.{ℕ, ◌≤◌}
 use mathlib.Core.Path.{◌≡◌, refl, ap, ap₂, sym, ◌∙◌}
 use mathlib.Core.Bool.{Bool, true, false, cond}
@@ -7,8 +8,7 @@ use mathlib.Core.List.{List, [], ◌∷◌, ◌++◌}
 use lib.Dec.{ltb}
 use lib.ListN.{length}
 use borrow.Author.Tests.{ltb-false}
-use Rattle.refusals.specs.Grounds.{ground_of, first_met, or_else}
-use Rattle.refusals.specs.declared.Checked.{Checked}
+use Rattle.refusals.specs.Grounds.{ground_of, first_met, or_else, Checked}
 use Rattle.refusals.specs.declared.Refusal.{Refusal}
 use Rattle.refusals.proofs.FirstMet.{first_of_both, not_met, both_pass}
 use Rattle.book.specs.BookGrounds.{book_grounds, Accepted}
@@ -44,7 +44,7 @@ reading_checked job = of_intake (reading_unusable (reading_of job)) (for_reading
 -- What the code finds after the fields have passed.
 pub later_found :
     (job book : List ℕ) {found reading checked : Checked} {intake : Intake}
-    → first_met (field_grounds job) ≡ Checked.Passed
+    → first_met (field_grounds job) ≡ Ok tt
     → found ≡ or_else reading checked
     → reading ≡ intake_checked intake
     → intake ≡ intake_of job
@@ -56,7 +56,7 @@ later_found job book passed joined read taken checked =
     ∙ sym (checked_by_parts job book ∙ ap (λ first. or_else first (or_else (first_met (reading_grounds job)) (first_met (book_grounds book)))) passed)
 
 pub refused_by_fields :
-    (job book : List ℕ) {refusal : Refusal} → first_met (field_grounds job) ≡ Checked.Refused refusal → checked_job job book ≡ Checked.Refused refusal
+    (job book : List ℕ) {refusal : Refusal} → first_met (field_grounds job) ≡ Err refusal → checked_job job book ≡ Err refusal
 refused_by_fields job book refused =
     checked_by_parts job book ∙ ap (λ first. or_else first (or_else (first_met (reading_grounds job)) (first_met (book_grounds book)))) refused
 
@@ -66,7 +66,7 @@ pub record FieldsPass (job : List ℕ) : Type 0 where
   pub target : target job ≤ max_target
   pub exposure : exposure_out_of_range (exposure_of job) ≡ false
 
-pub fields_pass : (job : List ℕ) → first_met (field_grounds job) ≡ Checked.Passed → FieldsPass job
+pub fields_pass : (job : List ℕ) → first_met (field_grounds job) ≡ Ok tt → FieldsPass job
 fields_pass job passed =
     let g1 = not_met (ltb (length job) job_length) _ _ passed in
     let g2 = not_met (code_unknown job) _ _ g1.1 in
@@ -91,7 +91,7 @@ in_intake :
     concentration_in (cond unusable Intake.Unusable (cond high Intake.TooHigh (Intake.Concentration c))) ≡ c
 in_intake unusable high c u h = rw (u, h)
 
-pub reading_passes : (job : List ℕ) → first_met (reading_grounds job) ≡ Checked.Passed → ReadingPasses job
+pub reading_passes : (job : List ℕ) → first_met (reading_grounds job) ≡ Ok tt → ReadingPasses job
 reading_passes job passed =
     let g7 = not_met (reading_unusable (reading_of job)) _ _ passed in
     let g8 = not_met (for_reading concentration_too_high job) _ _ g7.1 in
@@ -105,7 +105,7 @@ pub record JobPasses (job book : List ℕ) : Type 0 where
   pub reading : ReadingPasses job
   pub accepted : Accepted book
 
-pub job_passes : (job book : List ℕ) → checked_job job book ≡ Checked.Passed → JobPasses job book
+pub job_passes : (job book : List ℕ) → checked_job job book ≡ Ok tt → JobPasses job book
 job_passes job book passed =
     let parts = both_pass _ _ (sym (checked_by_parts job book) ∙ passed) in
     let later = both_pass _ _ parts.1 in

@@ -1,5 +1,6 @@
 -- No accepted job is longer than `longest_job`: its book has at most 16 members and 64 feeds. A longer input is refused
 -- at ground 11 or before; those grounds read lengths, the job's own fields and the book's two counts.
+use Rattle.std.specs.Prelude.{Ok, Err}
 use Prim.Native.Nat.{ℕ, ◌+◌, ◌*◌, ◌^◌, ◌-◌, ◌<◌, ◌≤◌}
 use native.Mathlib.Nat.{le_trans}
 use native.Mathlib.Omega.{arith}
@@ -10,8 +11,7 @@ use lib.Dec.{ltb}
 use lib.ListN.{length, get_or, take, length-drop}
 use lib.Seq.{get_or-take, get_or-drop, length-take-le}
 use borrow.Author.Tests.{le-ltb}
-use Rattle.refusals.specs.Grounds.{first_met, or_else}
-use Rattle.refusals.specs.declared.Checked.{Checked}
+use Rattle.refusals.specs.Grounds.{first_met, or_else, Checked}
 use Rattle.refusals.specs.declared.Refusal.{Refusal}
 use Rattle.book.specs.Fields.{longest_book}
 use Rattle.book.proofs.LongBook.{ground_of_long, long_book}
@@ -30,21 +30,21 @@ record SameStart (a b : List ℕ) : Type 0 where
 -- Two inputs that are refused on the same ground.
 pub record RefusedAlike (a b : List ℕ) : Type 0 where
   pub refusal : Refusal
-  pub first : checked_job a (book_of a) ≡ Checked.Refused refusal
-  pub second : checked_job b (book_of b) ≡ Checked.Refused refusal
+  pub first : checked_job a (book_of a) ≡ Err refusal
+  pub second : checked_job b (book_of b) ≡ Err refusal
 
 -- The refusal where the last checks refuse: it is theirs if none is earlier.
 abbrev earliest : Checked → Checked → Refusal → Refusal
-earliest (Checked.Refused r) reading last = r
-earliest Checked.Passed (Checked.Refused r) last = r
-earliest Checked.Passed Checked.Passed last = last
+earliest (Err r) reading last = r
+earliest (Ok _) (Err r) last = r
+earliest (Ok _) (Ok _) last = last
 
 refuses :
     (fields reading : Checked) (last : Refusal) →
-    or_else fields (or_else reading (Checked.Refused last)) ≡ Checked.Refused (earliest fields reading last)
-refuses (Checked.Refused r) reading last = refl
-refuses Checked.Passed (Checked.Refused r) last = refl
-refuses Checked.Passed Checked.Passed last = refl
+    or_else fields (or_else reading (Err last)) ≡ Err (earliest fields reading last)
+refuses (Err r) reading last = refl
+refuses (Ok _) (Err r) last = refl
+refuses (Ok _) (Ok _) last = refl
 
 abbrev fields_found : List ℕ → Checked
 fields_found job = first_met (field_grounds job)
@@ -62,13 +62,13 @@ refusal_of job = earliest (fields_found job) (reading_found job) (book_refusal j
 book_long : (size whole : ℕ) → size ≡ whole - job_length → longest_job < whole → longest_book < size
 book_long size whole e long = omega arith
 
-long_job : (job : List ℕ) → longest_job < length job → checked_job job (book_of job) ≡ Checked.Refused (refusal_of job)
+long_job : (job : List ℕ) → longest_job < length job → checked_job job (book_of job) ≡ Err (refusal_of job)
 long_job job long =
     checked_by_parts job (book_of job)
     ∙ ap
     (λ c. or_else (fields_found job) (or_else (reading_found job) c))
     (long_book (book_of job) (book_long (length (book_of job)) (length job) (length-drop job_length job) long)
-    ∙ ap₂ (λ n m. Checked.Refused (ground_of_long n m)) (get_or-drop job_length job 0 0) (get_or-drop job_length job 1 0))
+    ∙ ap₂ (λ n m. Err (ground_of_long n m)) (get_or-drop job_length job 0 0) (get_or-drop job_length job 1 0))
     ∙ refuses (fields_found job) (reading_found job) (book_refusal job)
 
 long_enough : (job : List ℕ) → longest_job < length job → ltb (length job) job_length ≡ false
@@ -99,8 +99,8 @@ module _ {a b : List ℕ} (same : SameStart a b) where
         refusal = refusal_of b;
         first =
             long_job a same.first_long
-            ∙ ap₂ (λ f r. Checked.Refused (earliest f r (book_refusal a))) fields_same (reading_found_same fields)
-            ∙ ap (λ last. Checked.Refused (earliest (fields_found b) (reading_found b) last)) book_same;
+            ∙ ap₂ (λ f r. Err (earliest f r (book_refusal a))) fields_same (reading_found_same fields)
+            ∙ ap (λ last. Err (earliest (fields_found b) (reading_found b) last)) book_same;
         second = long_job b same.second_long;
       }
 

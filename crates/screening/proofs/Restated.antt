@@ -1,5 +1,6 @@
 -- An exposure in whole hours, restated in quarter hours, has four times its X and Y: so verdict and level are those of
 -- the formulas in whole hours, as they are for any assessment.
+use Rattle.std.specs.Prelude.{Ok}
 use Prim.Native.Nat.{ℕ}
 use mathlib.Core.Path.{◌≡◌, sym, subst}
 use mathlib.Core.List.{List}
@@ -13,8 +14,7 @@ use Rattle.verdict.specs.Verdict.{verdict_at, level}
 use Rattle.screening.specs.Screening.{criterion_for, criterion_of, assessment_at, answer_of}
 use Rattle.screening.specs.WholeHours.{hours_criterion, hours_assessment, hours_assessment_of, WholeHoursPromise}
 use Rattle.verdict.specs.CommonFactor.{Unchanged}
-use Rattle.screening.specs.declared.job.Figures.{Figures}
-use Rattle.screening.specs.declared.job.Outcome.{Outcome}
+use Rattle.screening.specs.declared.job.Answer.{Answer}
 use Rattle.verdict.proofs.Restated as any
 use Rattle.screening.proofs.Answers.{as_judged}
 
@@ -26,12 +26,13 @@ judged kind e target book coefficient v =
     (any.restated (hours_criterion kind e target) (members book) coefficient (factor_at book v))
 
 answer :
-    (job : List ℕ) (e : HoursExposure) (figures : Figures) → exposure_of job ≡ in_quarters e → (answer_of job).outcome ≡ Outcome.Screened figures →
-    (figures.verdict ≡ verdict_at (hours_assessment_of job e) figures.concentration) × (figures.level ≡ level (hours_assessment_of job e))
-answer job e figures same answered =
+    (job : List ℕ) (e : HoursExposure) (answer : Answer) → exposure_of job ≡ in_quarters e → answer_of job ≡ Ok answer →
+    (answer.figures.verdict ≡ verdict_at (hours_assessment_of job e) answer.figures.concentration)
+    × (answer.figures.level ≡ level (hours_assessment_of job e))
+answer job e given same answered =
     let book = book_of job in
     let by = criterion_of job in
-    as_judged job figures answered (hours_assessment_of job e)
+    as_judged job given answered (hours_assessment_of job e)
     (subst
     (λ x. Unchanged (hours_assessment_of job e) (assessment_at (criterion_for by.kind x by.target) book (coefficient book) (rate job)))
     (sym same)

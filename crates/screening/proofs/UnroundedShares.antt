@@ -1,4 +1,5 @@
 -- Where no share is rounded, share × Z is 100 × ED. So Z times what the verdict is reached on is 100 times what it was reached on before.
+use Rattle.std.specs.Prelude.{Ok}
 use Prim.Native.Nat.{ℕ, ◌*◌, ◌<◌}
 use native.Mathlib.Omega.{arith}
 use mathlib.Core.Path.{◌≡◌, ap, sym, subst}
@@ -14,8 +15,7 @@ use Rattle.verdict.specs.Verdict.{verdict_at, level}
 use Rattle.screening.specs.Screening.{criterion_for, assessment_at, answer_of}
 use Rattle.verdict.specs.CommonFactor.{Unchanged}
 use Rattle.screening.specs.UnroundedShares.{years_bound, years_assessment, years_assessment_of, Unrounded, UnroundedPromise}
-use Rattle.screening.specs.declared.job.Figures.{Figures}
-use Rattle.screening.specs.declared.job.Outcome.{Outcome}
+use Rattle.screening.specs.declared.job.Answer.{Answer}
 use Rattle.verdict.proofs.Proportion.{same_verdicts}
 use Rattle.screening.proofs.Answers.{as_judged, some_years}
 
@@ -44,15 +44,16 @@ module _ (e : Exposure) (exact : Unrounded e) where
       (omega arith)
 
 answer :
-    (job : List ℕ) (figures : Figures) → kind_of (kind job) ≡ Kind.Dose → Unrounded (exposure_of job) → (answer_of job).outcome ≡ Outcome.Screened figures →
-    (figures.verdict ≡ verdict_at (years_assessment_of job) figures.concentration) × (figures.level ≡ level (years_assessment_of job))
-answer job figures dose exact answered =
+    (job : List ℕ) (answer : Answer) → kind_of (kind job) ≡ Kind.Dose → Unrounded (exposure_of job) → answer_of job ≡ Ok answer →
+    (answer.figures.verdict ≡ verdict_at (years_assessment_of job) answer.figures.concentration)
+    × (answer.figures.level ≡ level (years_assessment_of job))
+answer job given dose exact answered =
     let book = book_of job in
-    as_judged job figures answered (years_assessment_of job)
+    as_judged job given answered (years_assessment_of job)
     (subst
     (λ k. Unchanged (years_assessment_of job) (assessment_at (criterion_for k (exposure_of job) (target job)) book (coefficient book) (rate job)))
     (sym dose)
-    (judged (exposure_of job) exact (some_years job figures answered) (target job) book (coefficient book) (rate job)))
+    (judged (exposure_of job) exact (some_years job given answered) (target job) book (coefficient book) (rate job)))
 
 adults_alone : (e : Exposure) → e.child.years ≡ 0 → 0 < Z e → Unrounded e
 adults_alone e none some_years = record { child = unrounded 0 some_years (omega arith); adult = unrounded 100 some_years (omega arith) }

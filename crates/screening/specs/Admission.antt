@@ -1,21 +1,21 @@
 -- What the checks of a job leave: what its room is screened on, or the refusal alone.
-use Rattle.std.specs.Prelude.{ℕ, List}
-use Rattle.refusals.specs.declared.Checked.{Checked}
+use Rattle.refusals.specs.declared.Refusal.{Refusal}
+use Rattle.refusals.specs.Grounds.{Checked}
+use Rattle.std.specs.Prelude.{ℕ, List, Ok, Err, Result}
 use Rattle.screening.specs.Job.{rate, concentration_of, book_of}
 use Rattle.screening.specs.JobGrounds.{checked_job}
 use Rattle.screening.specs.Screening.{criterion_of}
-use Rattle.screening.specs.declared.admission.Admission.{Admission}
 use Rattle.screening.specs.declared.admission.ScreeningInput.{ScreeningInput}
 
 abbrev pub input_of : List ℕ → ScreeningInput
 input_of job = record { by = criterion_of job; rate = rate job; concentration = concentration_of job }
 
-abbrev pub admission_for : Checked → List ℕ → Admission
-admission_for Checked.Passed job = Admission.Admitted (input_of job)
-admission_for (Checked.Refused refusal) job = Admission.Refused refusal
+abbrev pub admission_for : Checked → List ℕ → Result ScreeningInput Refusal
+admission_for (Ok _) job = Ok (input_of job)
+admission_for (Err refusal) job = Err refusal
 
-abbrev pub admission_with : List ℕ → List ℕ → Admission
+abbrev pub admission_with : List ℕ → List ℕ → Result ScreeningInput Refusal
 admission_with job book = admission_for (checked_job job book) job
 
-abbrev pub admission_of : List ℕ → Admission
+abbrev pub admission_of : List ℕ → Result ScreeningInput Refusal
 admission_of job = admission_with job (book_of job)

@@ -1,7 +1,6 @@
 -- The grounds for refusing a job with its book, in checking order (document 01, grounds 1 to 18).
 use Rattle.std.specs.Prelude.{ℕ, Bool, not, ◌||◌, ◌&&◌, List, [], ◌∷◌, ◌++◌, length, ltb, eqb}
-use Rattle.refusals.specs.Grounds.{Ground, ground_of, first_met}
-use Rattle.refusals.specs.declared.Checked.{Checked}
+use Rattle.refusals.specs.Grounds.{Ground, ground_of, first_met, Checked}
 use Rattle.refusals.specs.declared.Refusal.TheVariants.{JobTooShort, CodeUnknown, RateTooHigh, TargetTooHigh, AttenuationOutOfRange, ExposureOutOfRange, ReadingUnusable, ConcentrationTooHigh}
 use Rattle.book.specs.BookGrounds.{book_grounds}
 use Rattle.book.specs.Rates.{max_rate}

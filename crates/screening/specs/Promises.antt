@@ -1,6 +1,7 @@
 -- What is promised: demand 3, whole, for every rate from 0 to 100,000, every chain that the checks accept, and every
 -- job over it; and what the answers of the reading say.
-use Rattle.std.specs.Prelude.{ℕ, ◌*◌, ◌-◌, ◌≤◌, ◌<◌, ◌≡◌, List, [], ◌∷◌, ltb, get_or, drop}
+use Rattle.refusals.specs.declared.Refusal.{Refusal}
+use Rattle.std.specs.Prelude.{ℕ, ◌*◌, ◌-◌, ◌≤◌, ◌<◌, ◌≡◌, List, [], ◌∷◌, ltb, get_or, drop, Result, Ok}
 use Rattle.refusals.specs.Grounds.{ground_of, first_met}
 use Rattle.refusals.specs.declared.Refusal.TheVariants.{ReadingUnusable, ConcentrationTooHigh}
 use Rattle.book.specs.Fields.{members, scale_of, coefficient}
@@ -23,8 +24,6 @@ use Rattle.verdict.specs.CommonFactor.{CommonFactor, Unchanged}
 use Rattle.screening.specs.WholeHours.{WholeHoursPromise}
 use Rattle.screening.specs.UnroundedShares.{UnroundedPromise}
 use Rattle.screening.specs.declared.job.Answer.{Answer}
-use Rattle.screening.specs.declared.job.Figures.{Figures}
-use Rattle.screening.specs.declared.job.Outcome.{Outcome}
 use Rattle.verdict.specs.declared.verdict.Criterion.{Criterion}
 use Rattle.verdict.specs.declared.verdict.Verdict.{Verdict}
 
@@ -43,10 +42,10 @@ VerdictPromise by book coefficient v C given =
     any.VerdictPromise (assessment_at by book coefficient v) (exact_denominator book v) (exact_factor book v) C given
 
 -- What the answer to a job promises: where it has figures, its verdict tells the truth.
-abbrev pub AnswerPromise : List ℕ → Answer → Type 0
-AnswerPromise job answer =
-    (figures : Figures) → answer.outcome ≡ Outcome.Screened figures →
-    VerdictPromise (criterion_of job) (book_of job) (coefficient (book_of job)) (rate job) figures.concentration figures.verdict
+abbrev pub AnswerPromise : List ℕ → Result Answer Refusal → Type 0
+AnswerPromise job result =
+    (answer : Answer) → result ≡ Ok answer →
+    VerdictPromise (criterion_of job) (book_of job) (coefficient (book_of job)) (rate job) answer.figures.concentration answer.figures.verdict
 
 pub record Demand3 : Type 0 where
   pub factors : FactorPromises
@@ -64,9 +63,9 @@ pub record Demand3 : Type 0 where
       verdict_order (verdict_at (assessment_at by book coefficient w) C) ≤ verdict_order (verdict_at (assessment_at by book coefficient v) C)
   -- nor does a job that differs from another in the rate's bytes alone
   pub no_worse_answer :
-      (job other : List ℕ) (figures others : Figures) → drop rate_length job ≡ drop rate_length other → rate job ≤ rate other →
-      (answer_of job).outcome ≡ Outcome.Screened figures → (answer_of other).outcome ≡ Outcome.Screened others →
-      verdict_order others.verdict ≤ verdict_order figures.verdict
+      (job other : List ℕ) (answer another : Answer) → drop rate_length job ≡ drop rate_length other → rate job ≤ rate other →
+      answer_of job ≡ Ok answer → answer_of other ≡ Ok another →
+      verdict_order another.figures.verdict ≤ verdict_order answer.figures.verdict
   pub level : (a : Assessment) → LevelPromise a
   -- Fm is at most 1,000,000
   pub equilibrium_at_most_one :

@@ -1,6 +1,6 @@
 -- The answer to a whole job.
-use Rattle.std.specs.Prelude.{ℕ, List, replicate}
-use Rattle.refusals.specs.declared.Checked.{Checked}
+use Rattle.refusals.specs.Grounds.{Checked}
+use Rattle.std.specs.Prelude.{ℕ, List, replicate, Ok, Err, Result}
 use Rattle.refusals.specs.declared.Refusal.{Refusal}
 use Rattle.book.specs.Limits.{max_members}
 use Rattle.book.specs.Fields.{members, scale_of, working_level_divisor, coefficient}
@@ -16,7 +16,6 @@ use Rattle.exposure.specs.declared.groups.Exposure.{Exposure}
 use Rattle.exposure.specs.declared.kind.Kind.{Kind}
 use Rattle.screening.specs.declared.job.Answer.{Answer}
 use Rattle.screening.specs.declared.job.Figures.{Figures}
-use Rattle.screening.specs.declared.job.Outcome.{Outcome}
 use Rattle.verdict.specs.declared.verdict.Criterion.{Criterion}
 
 -- What a room is judged by.
@@ -53,22 +52,19 @@ figures_at by book coefficient v C =
 abbrev pub screened_at : Criterion → List ℕ → (ℕ → ℕ → ℕ) → ℕ → ℕ → Answer
 screened_at by book coefficient v C =
     record {
-      outcome = Outcome.Screened (figures_at by book coefficient v C);
+      figures = figures_at by book coefficient v C;
       factors = factor_list v book (replicate max_members 0);
       count = members book;
     }
 
-abbrev pub refused_with : Refusal → Answer
-refused_with refusal = record { outcome = Outcome.Refused refusal; factors = replicate max_members 0; count = 0 }
-
 -- An accepted job has its figures and factors; a refusal returns the refusal alone.
-abbrev pub answer_for : Checked → List ℕ → List ℕ → Answer
-answer_for Checked.Passed job book = screened_at (criterion_of job) book (coefficient book) (rate job) (concentration_of job)
-answer_for (Checked.Refused refusal) job book = refused_with refusal
+abbrev pub answer_for : Checked → List ℕ → List ℕ → Result Answer Refusal
+answer_for (Ok _) job book = Ok (screened_at (criterion_of job) book (coefficient book) (rate job) (concentration_of job))
+answer_for (Err refusal) job book = Err refusal
 
-abbrev pub answer_with : List ℕ → List ℕ → Answer
+abbrev pub answer_with : List ℕ → List ℕ → Result Answer Refusal
 answer_with job book = answer_for (checked_job job book) job book
 
 -- The chain book follows the job.
-abbrev pub answer_of : List ℕ → Answer
+abbrev pub answer_of : List ℕ → Result Answer Refusal
 answer_of job = answer_with job (book_of job)

@@ -1,6 +1,6 @@
 -- Yearly dose as document 01 had it before document 02's R-2, in the quarter hours of R-1: the years themselves in X and Y, and Z in B.
 -- No room is judged by these any more. They say that R-2 differs from them by the rounding of the shares alone, at the end.
-use Rattle.std.specs.Prelude.{ℕ, ◌*◌, ◌^◌, ◌<◌, ◌≡◌, List}
+use Rattle.std.specs.Prelude.{ℕ, ◌*◌, ◌^◌, ◌<◌, ◌≡◌, List, Ok}
 use Rattle.book.specs.Fields.{members, coefficient}
 use Rattle.balance.specs.Balance.{G}
 use Rattle.balance.specs.Factors.{factor_at}
@@ -11,8 +11,7 @@ use Rattle.screening.specs.Job.{rate, kind, kind_of, target, exposure_of, book_o
 use Rattle.verdict.specs.Verdict.{Assessment, weight_of, verdict_at, level}
 use Rattle.screening.specs.Screening.{criterion_for, assessment_at, answer_of}
 use Rattle.verdict.specs.CommonFactor.{Unchanged}
-use Rattle.screening.specs.declared.job.Figures.{Figures}
-use Rattle.screening.specs.declared.job.Outcome.{Outcome}
+use Rattle.screening.specs.declared.job.Answer.{Answer}
 use Rattle.verdict.specs.declared.verdict.Criterion.{Criterion}
 
 -- Risk still has X and Y of the years themselves.
@@ -44,8 +43,9 @@ pub record UnroundedPromise : Type 0 where
       Unchanged (years_assessment e target book coefficient v) (assessment_at (criterion_for Kind.Dose e target) book coefficient v)
   -- and so they stand in the answer to the job
   pub answer :
-      (job : List ℕ) (figures : Figures) → kind_of (kind job) ≡ Kind.Dose → Unrounded (exposure_of job) → (answer_of job).outcome ≡ Outcome.Screened figures →
-      (figures.verdict ≡ verdict_at (years_assessment_of job) figures.concentration) × (figures.level ≡ level (years_assessment_of job))
+      (job : List ℕ) (answer : Answer) → kind_of (kind job) ≡ Kind.Dose → Unrounded (exposure_of job) → answer_of job ≡ Ok answer →
+      (answer.figures.verdict ≡ verdict_at (years_assessment_of job) answer.figures.concentration)
+      × (answer.figures.level ≡ level (years_assessment_of job))
   -- no share is rounded in a room that has one group
   pub adults_alone : (e : Exposure) → e.child.years ≡ 0 → 0 < Z e → Unrounded e
   pub children_alone : (e : Exposure) → e.adult.years ≡ 0 → 0 < Z e → Unrounded e

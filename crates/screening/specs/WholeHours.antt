@@ -1,7 +1,7 @@
 -- A room whose exposure is in whole hours, judged as document 01 had it before document 02's R-1, for dose with R-2's
 -- shares: what its verdict was reached on. No room is judged by these any more. They say what "each verdict and level
 -- must come out unchanged" means, at the end.
-use Rattle.std.specs.Prelude.{ℕ, ◌≡◌, List}
+use Rattle.std.specs.Prelude.{ℕ, ◌≡◌, List, Ok}
 use Rattle.book.specs.Fields.{members, coefficient}
 use Rattle.balance.specs.Factors.{factor_at}
 use Rattle.exposure.specs.WholeHours.{HoursExposure, in_quarters, hours_x, hours_y}
@@ -11,8 +11,7 @@ use Rattle.verdict.specs.Verdict.{Assessment, verdict_at, level}
 use Rattle.screening.specs.Screening.{criterion_for, criterion_of, assessment_at, answer_of}
 use Rattle.verdict.specs.CommonFactor.{Unchanged}
 use Rattle.verdict.specs.WholeHours.{hours_assessment_by}
-use Rattle.screening.specs.declared.job.Figures.{Figures}
-use Rattle.screening.specs.declared.job.Outcome.{Outcome}
+use Rattle.screening.specs.declared.job.Answer.{Answer}
 use Rattle.verdict.specs.declared.verdict.Criterion.{Criterion}
 
 -- What a room in whole hours was judged by, and what its verdict was reached on.
@@ -36,5 +35,6 @@ pub record WholeHoursPromise : Type 0 where
       Unchanged (hours_assessment kind e target book coefficient v) (assessment_at (criterion_for kind (in_quarters e) target) book coefficient v)
   -- and so they stand in the answer to the job
   pub answer :
-      (job : List ℕ) (e : HoursExposure) (figures : Figures) → exposure_of job ≡ in_quarters e → (answer_of job).outcome ≡ Outcome.Screened figures →
-      (figures.verdict ≡ verdict_at (hours_assessment_of job e) figures.concentration) × (figures.level ≡ level (hours_assessment_of job e))
+      (job : List ℕ) (e : HoursExposure) (answer : Answer) → exposure_of job ≡ in_quarters e → answer_of job ≡ Ok answer →
+      (answer.figures.verdict ≡ verdict_at (hours_assessment_of job e) answer.figures.concentration)
+      × (answer.figures.level ≡ level (hours_assessment_of job e))

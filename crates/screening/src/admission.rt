@@ -1,14 +1,13 @@
 // The checks of a whole job, and what is taken from one that passes them.
 ghost use Rattle.screening.specs.JobGrounds.{field_grounds};
-ghost use Rattle.std.specs.Prelude.{◌≡◌};
+ghost use Rattle.std.specs.Prelude.{◌≡◌, Ok};
 ghost use Rattle.refusals.specs.Grounds.{first_met};
-ghost use Rattle.refusals.specs.declared.Checked.TheVariants.{Passed};
 ghost use Rattle.screening.specs.Admission.{admission_with, admission_of};
 
 use crate::check::{check_fields, concentration_in, intake_checked, intake_of};
 use crate::fields::{JOB_LENGTH, criterion_of, rate_of};
 use book::check_book;
-use refusals::{Checked, Refusal, or_else};
+use refusals::Refusal;
 use verdict::Criterion;
 
 // What a room is screened on.
@@ -19,37 +18,27 @@ pub struct ScreeningInput {
     pub concentration: u64,
 }
 
-#[derive(Clone, Copy)]
-pub enum Admission {
-    Admitted(ScreeningInput),
-    Refused(Refusal),
-}
-
 // What any bytes are taken for: the first ground that is met, or else the room, with its reading taken once and its
 // book checked once.
-pub fn admit(job: &[u8]) -> Admission
+pub fn admit(job: &[u8]) -> Result<ScreeningInput, Refusal>
     ensures { result ≡ admission_of job.now }
 {
-    let found = check_fields(job);
-    match found {
-        Checked::Refused(refusal) => Admission::Refused(refusal),
-        Checked::Passed => admit_with(job, &job[JOB_LENGTH..]),
-    }
+    check_fields(job)?;
+    admit_with(job, &job[JOB_LENGTH..])
 }
 
 // The same for a job whose own fields pass, with its book.
-fn admit_with(job: &[u8], book: &[u8]) -> Admission
-    requires { first_met (field_grounds job.now) ≡ Passed }
+#[tactic(auto, using(refusals::proofs::FirstMet::in_turn))]
+fn admit_with(job: &[u8], book: &[u8]) -> Result<ScreeningInput, Refusal>
+    requires { first_met (field_grounds job.now) ≡ Ok tt }
     ensures { result ≡ admission_with job.now book.now }
 {
     let intake = intake_of(job);
-    let found = or_else(intake_checked(intake), check_book(book));
-    match found {
-        Checked::Refused(reason) => Admission::Refused(reason),
-        Checked::Passed => Admission::Admitted(ScreeningInput {
-            by: criterion_of(job),
-            rate: rate_of(job),
-            concentration: concentration_in(intake),
-        }),
-    }
+    intake_checked(intake)?;
+    check_book(book)?;
+    Ok(ScreeningInput {
+        by: criterion_of(job),
+        rate: rate_of(job),
+        concentration: concentration_in(intake),
+    })
 }

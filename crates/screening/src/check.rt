@@ -13,7 +13,7 @@ use crate::fields::{
 use book::MAX_RATE;
 use exposure::out_of_range;
 use reading::{Intake, WHOLE_ATTENUATION, intake};
-use refusals::{Checked, Refusal, refuse_if};
+use refusals::{Refusal, refuse_if};
 
 const LAST_KIND: u8 = 1;
 
@@ -43,22 +43,22 @@ fn attenuation_out_of_range(job: &[u8]) -> bool
     (af > WHOLE_ATTENUATION) | ((medium_code(job) == 0) & (af != WHOLE_ATTENUATION))
 }
 
-// Grounds 1 to 6, from the last to the first, since the first takes precedence. Past the end a field reads as 0.
-pub(crate) fn check_fields(job: &[u8]) -> Checked
+// Grounds 1 to 6. Past the end a field reads as 0.
+pub(crate) fn check_fields(job: &[u8]) -> Result<(), Refusal>
     ensures { result ≡ first_met (field_grounds job.now) }
 {
-    let short = job.len() < JOB_LENGTH;
-    let code = code_unknown(job);
-    let rate = rate_of(job) > MAX_RATE;
-    let target = target_of(job) > MAX_TARGET;
-    let attenuation = attenuation_out_of_range(job);
-    let exposure = out_of_range(exposure_of(job));
-    let found = refuse_if(exposure, Refusal::ExposureOutOfRange, Checked::Passed);
-    let found = refuse_if(attenuation, Refusal::AttenuationOutOfRange, found);
-    let found = refuse_if(target, Refusal::TargetTooHigh, found);
-    let found = refuse_if(rate, Refusal::RateTooHigh, found);
-    let found = refuse_if(code, Refusal::CodeUnknown, found);
-    refuse_if(short, Refusal::JobTooShort, found)
+    refuse_if(job.len() < JOB_LENGTH, Refusal::JobTooShort)?;
+    refuse_if(code_unknown(job), Refusal::CodeUnknown)?;
+    refuse_if(rate_of(job) > MAX_RATE, Refusal::RateTooHigh)?;
+    refuse_if(target_of(job) > MAX_TARGET, Refusal::TargetTooHigh)?;
+    refuse_if(
+        attenuation_out_of_range(job),
+        Refusal::AttenuationOutOfRange,
+    )?;
+    refuse_if(
+        out_of_range(exposure_of(job)),
+        Refusal::ExposureOutOfRange,
+    )
 }
 
 // The intake of the job's reading. A NaN's pattern cannot become an f64, so the patterns are looked at first.
@@ -77,13 +77,13 @@ pub(crate) fn intake_of(job: &[u8]) -> Intake
 }
 
 // Grounds 7 and 8.
-pub(crate) fn intake_checked(intake: Intake) -> Checked
+pub(crate) fn intake_checked(intake: Intake) -> Result<(), Refusal>
     ensures { result ≡ intake_checked intake }
 {
     match intake {
-        Intake::Concentration(_) => Checked::Passed,
-        Intake::TooHigh => Checked::Refused(Refusal::ConcentrationTooHigh),
-        Intake::Unusable => Checked::Refused(Refusal::ReadingUnusable),
+        Intake::Concentration(_) => Ok(()),
+        Intake::TooHigh => Err(Refusal::ConcentrationTooHigh),
+        Intake::Unusable => Err(Refusal::ReadingUnusable),
     }
 }
 

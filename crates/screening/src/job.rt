@@ -1,6 +1,5 @@
 // What is answered to a whole job.
 use book::MAX_MEMBERS;
-use refusals::Refusal;
 use verdict::{Verdict, WorkingLevels};
 
 // What is worked out for an accepted job, besides its factors.
@@ -12,16 +11,10 @@ pub struct Figures {
     pub working: WorkingLevels,
 }
 
-#[derive(Clone, Copy)]
-pub enum Outcome {
-    Screened(Figures),
-    Refused(Refusal),
-}
-
-// The answer to a whole job. The factors stand in the first `count` places; a refused job has none.
+// The answer to a job that is accepted. The factors stand in the first `count` places.
 #[derive(Clone, Copy)]
 pub struct Answer {
-    pub outcome: Outcome,
+    pub figures: Figures,
     pub factors: [u64; MAX_MEMBERS],
     pub count: usize,
 }

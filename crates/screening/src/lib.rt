@@ -9,12 +9,11 @@ mod screened;
 
 ghost use Rattle.std.specs.Prelude.{◌≡◌};
 ghost use Rattle.screening.specs.Promises.{AnswerPromise};
-ghost use Rattle.screening.specs.Screening.{refused_with, answer_of};
+ghost use Rattle.screening.specs.Screening.{answer_of};
 
-pub use admission::{Admission, ScreeningInput, admit};
-use book::MAX_MEMBERS;
+pub use admission::{ScreeningInput, admit};
 pub use fields::{JOB_LENGTH, LONGEST_JOB};
-pub use job::{Answer, Figures, Outcome};
+pub use job::{Answer, Figures};
 use refusals::Refusal;
 use screened::screened;
 pub use screened::verdict_at;
@@ -22,25 +21,10 @@ pub use verdict::{Criterion, Verdict, WorkingLevels};
 
 // The answer to any bytes: the first ground that is met, or else what is worked out, with a verdict that the exact
 // balance bears out.
-pub fn screen_job(job: &[u8]) -> Answer
+pub fn screen_job(job: &[u8]) -> Result<Answer, Refusal>
     ensures answered { result ≡ answer_of job.now }
     ensures sound { AnswerPromise job.now result }
 {
-    let admission = admit(job);
-    match admission {
-        Admission::Refused(refusal) => refused(refusal),
-        Admission::Admitted(input) => screened(input, &job[JOB_LENGTH..]),
-    }
-}
-
-// A refusal alone.
-fn refused(refusal: Refusal) -> Answer
-    ensures { result ≡ refused_with refusal }
-{
-    let none = [0u64; MAX_MEMBERS];
-    Answer {
-        outcome: Outcome::Refused(refusal),
-        factors: none,
-        count: 0,
-    }
+    let input = admit(job)?;
+    Ok(screened(input, &job[JOB_LENGTH..]))
 }

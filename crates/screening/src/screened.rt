@@ -13,7 +13,7 @@ ghost use Rattle.verdict.specs.HeldNumbers.{number_in};
 ghost use Rattle.screening.specs.Private.HeldNumbers.{figures_in, Figurable};
 
 use crate::admission::ScreeningInput;
-use crate::job::{Answer, Figures, Outcome};
+use crate::job::{Answer, Figures};
 use balance::fill_accepted;
 use book::{COEFFICIENTS, HeldChain, MAX_MEMBERS, member_count, read_book};
 use verdict::{Criterion, Verdict, alpha_sum, judged, sums_of, verdict_by, working_levels};
@@ -99,7 +99,7 @@ pub(crate) fn screened(input: ScreeningInput, book: &[u8]) -> Answer
         &at_zero,
     );
     Answer {
-        outcome: Outcome::Screened(figures),
+        figures,
         factors: list,
         count,
     }

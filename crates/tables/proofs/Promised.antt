@@ -3,14 +3,13 @@
 -- last ground is never met.
 use Prim.Native.Nat.{ℕ, ◌≤◌}
 use native.Mathlib.Omega.{arith}
-use Rattle.std.specs.Prelude.{pos}
+use Rattle.std.specs.Prelude.{pos, Ok, Err}
 use mathlib.Core.Path.{◌≡◌, refl, ap, sym, ◌∙◌}
 use mathlib.Core.Bool.{Bool, true, false, cond}
 use mathlib.Core.List.{List}
 use lib.ListN.{length}
 use borrow.Author.Tests.{ltb-true, ltb-false}
-use Rattle.refusals.specs.Grounds.{first_met, or_else}
-use Rattle.refusals.specs.declared.Checked.{Checked}
+use Rattle.refusals.specs.Grounds.{first_met, or_else, Checked, answer_if, answer_number}
 use Rattle.refusals.specs.declared.Refusal.{Refusal}
 use Rattle.refusals.specs.declared.Refusal.TheVariants.{BufferTooShort}
 use Rattle.refusals.proofs.FirstMet.{both_pass, not_met}
@@ -22,13 +21,12 @@ use Rattle.book.specs.Rates.{max_rate}
 use Rattle.text.proofs.Digits.{decimal_below}
 use Rattle.text.proofs.Pieces.{each_at_most}
 use Rattle.tables.specs.Table.{rate_line, table_text}
-use Rattle.tables.specs.Answers.{line_room, table_room, buffer_too_short, table_grounds, tabled_if, table_answer, table_answer_number, earlier_grounds}
+use Rattle.tables.specs.Answers.{line_room, table_room, buffer_too_short, table_grounds, table_answer, earlier_grounds}
 use Rattle.tables.specs.Promises.{TablePromises}
 use Rattle.tables.specs.Private.Tabulable.{Tabulable}
-use Rattle.tables.specs.declared.TableAnswer.{TableAnswer}
 use Rattle.tables.proofs.Rates.{rate_low}
 use Rattle.tables.proofs.RateLine.{line_length}
-use Rattle.tables.proofs.ByChecks.{tabulable, in_two}
+use Rattle.tables.proofs.ByChecks.{tabulable, refused_if, in_two}
 use Rattle.tables.proofs.LongBooks.{long_book_alike}
 
 pub table_fits : (rates book : List ℕ) → Tabulable rates book → length (table_text book rates) ≤ table_room
@@ -41,32 +39,30 @@ table_fits rates book given =
     omega (arith, given.few)
 
 tabled_passed :
-    (found : Checked) (size n : ℕ) → table_answer_number (tabled_if found size) ≡ pos n →
-    (found ≡ Checked.Passed) × (size ≡ n)
-tabled_passed Checked.Passed size n e = (refl, cc)
-tabled_passed (Checked.Refused r) size n e = absurd (no_count r n e)
+    (found : Checked) (size n : ℕ) → answer_number (answer_if found size) ≡ pos n →
+    (found ≡ Ok tt) × (size ≡ n)
+tabled_passed (Ok tt) size n e = (refl, cc)
+tabled_passed (Err r) size n e = absurd (no_count r n e)
 
 tabled_refused :
-    (found : Checked) (size : ℕ) → table_answer_number (tabled_if found size) ≡ refused_number BufferTooShort →
-    (r : Refusal) × (found ≡ Checked.Refused r) × (refusal_number r ≡ refusal_number BufferTooShort)
-tabled_refused Checked.Passed size e = absurd (no_count BufferTooShort size (sym e))
-tabled_refused (Checked.Refused r) size e = (r, refl, same_number r BufferTooShort e)
+    (found : Checked) (size : ℕ) → answer_number (answer_if found size) ≡ refused_number BufferTooShort →
+    (r : Refusal) × (found ≡ Err r) × (refusal_number r ≡ refusal_number BufferTooShort)
+tabled_refused (Ok tt) size e = absurd (no_count BufferTooShort size (sym e))
+tabled_refused (Err r) size e = (r, refl, same_number r BufferTooShort e)
 
 -- What is found of checks that cannot find r is not r; of what comes after them it can be.
 from_last :
-    (found : Checked) {r : Refusal} {last : Checked} → (found ≡ Checked.Refused r → ⊥) →
-    or_else found last ≡ Checked.Refused r → (found ≡ Checked.Passed) × (last ≡ Checked.Refused r)
-from_last Checked.Passed other e = (refl, e)
-from_last (Checked.Refused s) other e = absurd (other e)
+    (found : Checked) {r : Refusal} {last : Checked} → (found ≡ Err r → ⊥) →
+    or_else found last ≡ Err r → (found ≡ Ok tt) × (last ≡ Err r)
+from_last (Ok tt) other e = (refl, e)
+from_last (Err s) other e = absurd (other e)
 
-was_short :
-    (short : Bool) {r : Refusal} → cond short (Checked.Refused BufferTooShort) Checked.Passed ≡ Checked.Refused r →
-    short ≡ true
+was_short : (short : Bool) {r : Refusal} → refused_if short ≡ Err r → short ≡ true
 was_short true e = refl
 was_short false e = absurd (let z : ◌≡◌ {A = ℕ} 0 1 = cc in omega arith)
 
 module _ (rates book : List ℕ) (capacity : ℕ) where
-  within : (n : ℕ) → table_answer_number (table_answer rates book capacity) ≡ pos n → (n ≤ capacity) × (n ≤ table_room)
+  within : (n : ℕ) → answer_number (table_answer rates book capacity) ≡ pos n → (n ≤ capacity) × (n ≤ table_room)
   within n answered =
       let passed = tabled_passed (first_met (table_grounds rates book capacity)) (length (table_text book rates)) n answered in
       let both = both_pass (first_met (earlier_grounds rates book)) _ (sym (in_two rates book capacity) ∙ passed.0) in
@@ -75,7 +71,7 @@ module _ (rates book : List ℕ) (capacity : ℕ) where
       let size = passed.1 in
       (omega arith, omega (arith, table_fits rates book (tabulable rates book both.0)))
 
-  enough : table_room ≤ capacity → table_answer_number (table_answer rates book capacity) ≡ refused_number BufferTooShort → ⊥
+  enough : table_room ≤ capacity → answer_number (table_answer rates book capacity) ≡ refused_number BufferTooShort → ⊥
   enough large answered =
       let refused = tabled_refused (first_met (table_grounds rates book capacity)) (length (table_text book rates)) answered in
       let found =

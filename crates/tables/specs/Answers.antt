@@ -1,15 +1,13 @@
 -- The table call: a list of rates, a book and a lent buffer in; checks 3, 9 to 18, 20, 21.
-use Rattle.std.specs.Prelude.{ℕ, ℤ, pos, ◌+◌, ◌*◌, Bool, List, [], ◌∷◌, ◌++◌, length, get_or, ltb}
-use Rattle.refusals.specs.Grounds.{Ground, ground_of, first_met, refused_number}
-use Rattle.refusals.specs.declared.Checked.{Checked}
+use Rattle.refusals.specs.declared.Refusal.{Refusal}
+use Rattle.std.specs.Prelude.{ℕ, ℤ, pos, ◌+◌, ◌*◌, Bool, List, [], ◌∷◌, ◌++◌, length, get_or, ltb, Result, Ok, Err}
+use Rattle.refusals.specs.Grounds.{Ground, ground_of, first_met, refused_number, Checked, written_if, answer_if}
 use Rattle.refusals.specs.declared.Refusal.TheVariants.{RateTooHigh, RateCountOutOfRange, BufferTooShort}
 use Rattle.book.specs.Limits.{max_members}
 use Rattle.numbers.specs.Tests.{outside, some_below}
 use Rattle.book.specs.BookGrounds.{book_grounds}
 use Rattle.book.specs.Rates.{max_rate}
-use Rattle.balance.specs.Factors.{written_if}
 use Rattle.tables.specs.Table.{table_text}
-use Rattle.tables.specs.declared.TableAnswer.{TableAnswer}
 
 abbrev pub max_rates : ℕ
 max_rates = 200
@@ -45,19 +43,10 @@ abbrev pub table_grounds : List ℕ → List ℕ → ℕ → List Ground
 table_grounds rates book capacity =
     earlier_grounds rates book ++ (ground_of BufferTooShort (buffer_too_short rates book capacity) ∷ [])
 
--- The answer is the text's length; a refusal is the refusal alone.
-abbrev pub tabled_if : Checked → ℕ → TableAnswer
-tabled_if Checked.Passed n = TableAnswer.Written n
-tabled_if (Checked.Refused r) n = TableAnswer.Refused r
-
-abbrev pub table_answer : List ℕ → List ℕ → ℕ → TableAnswer
-table_answer rates book capacity = tabled_if (first_met (table_grounds rates book capacity)) (length (table_text book rates))
+-- Accepted, the call answers the text's length.
+abbrev pub table_answer : List ℕ → List ℕ → ℕ → Result ℕ Refusal
+table_answer rates book capacity = answer_if (first_met (table_grounds rates book capacity)) (length (table_text book rates))
 
 -- Bytes past the text are untouched, and a refusal touches none.
 abbrev pub table_buffer : List ℕ → List ℕ → List ℕ → List ℕ
 table_buffer rates book list = written_if (first_met (table_grounds rates book (length list))) (table_text book rates) list
-
--- The number of an answer, as every caller gets it: the text's length, or minus the number of the refusal.
-abbrev pub table_answer_number : TableAnswer → ℤ
-table_answer_number (TableAnswer.Written n) = pos n
-table_answer_number (TableAnswer.Refused r) = refused_number r

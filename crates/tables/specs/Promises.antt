@@ -1,19 +1,19 @@
 -- What is promised of a table's length, and of a book's.
 use Rattle.std.specs.Prelude.{ℕ, pos, ◌+◌, ◌≤◌, ◌<◌, ◌≡◌, List, length, take}
-use Rattle.refusals.specs.Grounds.{refused_number}
+use Rattle.refusals.specs.Grounds.{refused_number, answer_number}
 use Rattle.refusals.specs.declared.Refusal.TheVariants.{BufferTooShort}
 use Rattle.book.specs.Fields.{longest_book}
-use Rattle.tables.specs.Answers.{table_room, table_answer, table_answer_number, table_buffer}
+use Rattle.tables.specs.Answers.{table_room, table_answer, table_buffer}
 
 pub record TablePromises : Type 0 where
   -- a text that is written is within the buffer, and within the room that is enough for every table
   pub within :
-      (rates book : List ℕ) (capacity n : ℕ) → table_answer_number (table_answer rates book capacity) ≡ pos n →
+      (rates book : List ℕ) (capacity n : ℕ) → answer_number (table_answer rates book capacity) ≡ pos n →
       (n ≤ capacity) × (n ≤ table_room)
   -- with that room no buffer is too short
   pub enough :
       (rates book : List ℕ) (capacity : ℕ) → table_room ≤ capacity →
-      table_answer_number (table_answer rates book capacity) ≡ refused_number BufferTooShort → ⊥
+      answer_number (table_answer rates book capacity) ≡ refused_number BufferTooShort → ⊥
   -- of a book that is longer than any that is accepted, one byte more than that is enough: answer and buffer are the
   -- same
   pub long_book :

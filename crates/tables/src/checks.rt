@@ -6,20 +6,19 @@ ghost use Rattle.tables.specs.Answers.{some_rate_too_high, earlier_grounds};
 
 use crate::limits::MAX_RATES;
 use book::{MAX_RATE, check_book};
-use refusals::{Checked, Refusal, or_else, refuse_if};
+use refusals::{Refusal, refuse_if};
 
 // The first ground for refusing the call, but for the last.
-pub(crate) fn check_table(rates: &[u32], book: &[u8]) -> Checked
+#[tactic(auto, using(refusals::proofs::FirstMet::in_turn))]
+pub(crate) fn check_table(rates: &[u32], book: &[u8]) -> Result<(), Refusal>
     ensures { result ≡ first_met (earlier_grounds rates.now book.now) }
 {
     let count = rates.len();
-    let miscounted = (count < 1) | (MAX_RATES < count);
-    let last = refuse_if(miscounted, Refusal::RateCountOutOfRange, Checked::Passed);
-    let too_high = some_rate_too_high(rates);
+    refuse_if(some_rate_too_high(rates), Refusal::RateTooHigh)?;
+    check_book(book)?;
     refuse_if(
-        too_high,
-        Refusal::RateTooHigh,
-        or_else(check_book(book), last),
+        (count < 1) | (MAX_RATES < count),
+        Refusal::RateCountOutOfRange,
     )
 }
 

@@ -17,36 +17,28 @@ use checks::check_table;
 use lengths::table_length;
 pub use limits::{MAX_RATES, TABLE_ROOM};
 use lines::put_rate_lines;
-use refusals::{Checked, Refusal};
+use refusals::{Refusal, refuse_if};
 pub use source_rates::SOURCE_RATES;
 
-// What the table call answers: the text's length, or why nothing was written.
-#[derive(Clone, Copy)]
-pub enum TableAnswer {
-    Written(usize),
-    Refused(Refusal),
-}
-
-// The table of a book at every rate of a list, to the start of `out`; a refusal leaves `out` as it was.
-pub fn tabulate(rates: &[u32], book: &[u8], out: &mut [u8]) -> TableAnswer
+// The table of a book at every rate of a list, to the start of `out`: the text's length; a refusal leaves `out` as it
+// was.
+pub fn tabulate(rates: &[u32], book: &[u8], out: &mut [u8]) -> Result<usize, Refusal>
     ensures answered { result ≡ table_answer rates.now book.now (length out.old) }
     ensures written { out.new ≡ table_buffer rates.now book.now out.old }
 {
-    let checked = check_table(rates, book);
-    match checked {
-        Checked::Refused(refusal) => TableAnswer::Refused(refusal),
-        Checked::Passed => write_table(rates, book, out),
-    }
+    check_table(rates, book)?;
+    write_table(rates, book, out)
 }
 
 // The text's length is known before a byte is written.
-fn write_table(rates: &[u32], book: &[u8], out: &mut [u8]) -> TableAnswer
+fn write_table(rates: &[u32], book: &[u8], out: &mut [u8]) -> Result<usize, Refusal>
     requires { Tabulable rates.now book.now }
     ensures answered { result ≡ fitting_answer (table_text book.now rates.now) (length out.old) }
     ensures written { out.new ≡ bytes_written (table_text book.now rates.now) out.old }
 {
-    if out.len() < table_length(rates, book) {
-        return TableAnswer::Refused(Refusal::BufferTooShort);
-    }
-    TableAnswer::Written(put_rate_lines(out, rates, book))
+    refuse_if(
+        out.len() < table_length(rates, book),
+        Refusal::BufferTooShort,
+    )?;
+    Ok(put_rate_lines(out, rates, book))
 }

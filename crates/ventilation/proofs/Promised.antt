@@ -1,12 +1,13 @@
 -- Everything that is promised of the lowest rate: the answer is the first rate at which the verdict is 'below', and
 -- what the first is, First says. The bytes are RateWritten's.
+use Rattle.refusals.specs.Grounds.{Checked}
 use Prim.Native.Nat.{ℕ, suc, ◌≤◌}
 use native.Mathlib.Omega.{arith}
 use mathlib.Core.Path.{◌≡◌, refl, ap, sym, subst, ◌∙◌}
 use mathlib.Core.Bool.{Bool, true, false, true≢false}
 use mathlib.Core.List.{List}
-use Rattle.std.specs.Prelude.{pos}
-use Rattle.refusals.specs.declared.Checked.{Checked}
+use Rattle.std.specs.Prelude.{pos, Option, Some, None, Result, Ok, Err}
+use Rattle.refusals.specs.declared.Refusal.{Refusal}
 use Rattle.refusals.proofs.Numbers.{no_count}
 use Rattle.book.specs.Fields.{coefficient}
 use Rattle.book.specs.BookGrounds.{Accepted}
@@ -20,7 +21,6 @@ use Rattle.screening.proofs.JobChecks.{job_passes}
 use Rattle.ventilation.specs.Lowest.{says_below, verdict_on, lowest_rate, lowest_for, no_rate, lowest_number, lowest_of}
 use Rattle.ventilation.specs.JobWithRate.{with_rate, Judged}
 use Rattle.ventilation.specs.Promises.{LowestPromise, VentilationPromises}
-use Rattle.ventilation.specs.declared.answer.LowestRate.{LowestRate}
 use Rattle.ventilation.proofs.First.{First, first_is}
 use Rattle.ventilation.proofs.StaysBelow.{below_rises}
 use Rattle.ventilation.proofs.RateWritten.{at_rate, own_rate_ignored}
@@ -33,7 +33,7 @@ told_below Above e = absurd (true≢false (sym e))
 told_other : {verdict : Verdict} → says_below verdict ≡ false → ¬ (verdict ≡ Below)
 told_other e below = true≢false (ap says_below (sym below) ∙ e)
 
-no_none : (v : ℕ) → LowestRate.None ≡ LowestRate.Rate v → ⊥
+no_none : (v : ℕ) → ◌≡◌ {A = Result (Option ℕ) Refusal} (Ok None) (Ok (Some v)) → ⊥
 no_none v is = cc
 
 module _ (job : List ℕ) where
@@ -41,8 +41,8 @@ module _ (job : List ℕ) where
   test v = says_below (verdict_on job v)
 
   of_found :
-      (answer : LowestRate) → First test 0 (suc max_rate) answer → Accepted (book_of job) → LowestPromise job answer
-  of_found (LowestRate.Rate r) found accepted =
+      (answer : Option ℕ) → First test 0 (suc max_rate) answer → Accepted (book_of job) → LowestPromise job (Ok answer)
+  of_found (Some r) found accepted =
       let rises = below_rises (criterion_of job) (book_of job) (coefficient (book_of job)) (concentration_of job) accepted in
       let is-rate : (v : ℕ) → pos r ≡ pos v → r ≡ v = λ v is. cc in
       record {
@@ -54,7 +54,7 @@ module _ (job : List ℕ) where
             told_below (verdict_on job w) (rises.stays r w (omega (arith, is-rate v is)) (omega arith) found.holds);
         nowhere = λ is w within. absurd (omega (arith, found.within, is-rate no_rate is));
       }
-  of_found LowestRate.None found accepted =
+  of_found None found accepted =
       let is-none : (v : ℕ) → pos no_rate ≡ pos v → no_rate ≡ v = λ v is. cc in
       record {
         rate_within = λ v is. absurd (no_none v is);
@@ -64,13 +64,12 @@ module _ (job : List ℕ) where
         stays_below = λ v w is low over within. absurd (omega (arith, is-none v is));
         nowhere = λ is w within. told_other (found w (omega arith) (omega arith));
       }
-  of_found (LowestRate.Refused refusal) found accepted = absurd found
 
   of_checked : (found : Checked) → checked_job job (book_of job) ≡ found → LowestPromise job (lowest_for found job)
-  of_checked Checked.Passed checked =
+  of_checked (Ok tt) checked =
       of_found (lowest_rate job) (first_is test (suc max_rate) 0 (suc max_rate) (omega arith))
       (job_passes job (book_of job) checked).accepted
-  of_checked (Checked.Refused refusal) checked =
+  of_checked (Err refusal) checked =
       record {
         rate_within = λ v is. absurd (no_count refusal v (ap lowest_number is));
         within = λ v is. absurd (no_count refusal v is);
@@ -84,13 +83,13 @@ pub lowest_promise : (job : List ℕ) → LowestPromise job (lowest_of job)
 lowest_promise job = of_checked job (checked_job job (book_of job)) refl
 
 -- What an answer keeps that is the definition's.
-pub kept : (job : List ℕ) {answer : LowestRate} → answer ≡ lowest_of job → LowestPromise job answer
+pub kept : (job : List ℕ) {answer : Result (Option ℕ) Refusal} → answer ≡ lowest_of job → LowestPromise job answer
 kept job e = subst (LowestPromise job) (sym e) (lowest_promise job)
 
 number_passed :
-    (found : Checked) (job : List ℕ) (v : ℕ) → lowest_number (lowest_for found job) ≡ pos v → found ≡ Checked.Passed
-number_passed Checked.Passed job v is = refl
-number_passed (Checked.Refused refusal) job v is = absurd (no_count refusal v is)
+    (found : Checked) (job : List ℕ) (v : ℕ) → lowest_number (lowest_for found job) ≡ pos v → found ≡ Ok tt
+number_passed (Ok tt) job v is = refl
+number_passed (Err refusal) job v is = absurd (no_count refusal v is)
 
 at_answer : (job : List ℕ) (v : ℕ) → lowest_number (lowest_of job) ≡ pos v → v ≤ max_rate → Judged (with_rate v job) Below
 at_answer job v is low =

@@ -1,5 +1,6 @@
 -- A rate within the limit, written into a job that passes its checks, reads back and leaves all later bytes as they
 -- were. So the checks still pass, and what is judged is the same job at that rate.
+use Rattle.std.specs.Prelude.{Ok}
 use Prim.Native.Nat.{ℕ, suc, ◌+◌, ◌*◌, ◌/◌, ◌%◌, ◌^◌, ◌≤◌, ◌<◌}
 use native.Mathlib.Nat.{div-div-eq-div-mul}
 use native.Mathlib.Omega.{arith}
@@ -7,12 +8,11 @@ use mathlib.Core.Path.{◌≡◌, refl, ap, ap₂, sym, ◌∙◌}
 use mathlib.Core.List.{List}
 use lib.ListN.{length, drop, length-drop}
 use borrow.Author.Tests.{le-ltb}
-use Rattle.refusals.specs.declared.Checked.{Checked}
 use Rattle.book.specs.Fields.{coefficient}
 use Rattle.book.specs.Rates.{max_rate}
 use Rattle.screening.specs.Job.{rate, rate_length, job_length, concentration_of, book_of}
 use Rattle.screening.specs.JobGrounds.{checked_job}
-use Rattle.screening.specs.Screening.{criterion_of, figures_at, answer_for}
+use Rattle.screening.specs.Screening.{criterion_of, figures_at, screened_at, answer_for}
 use Rattle.verdict.specs.declared.verdict.Verdict.{Verdict}
 use Rattle.screening.proofs.JobChecks.{FieldsPass, job_passes}
 use Rattle.screening.proofs.SameBytes.{judged_same, checked_same}
@@ -40,17 +40,17 @@ rest_kept w job = refl
 
 -- A job that passes its checks is answered with the verdict on it at its own rate.
 judged_at_own_rate :
-    (job : List ℕ) (verdict : Verdict) → checked_job job (book_of job) ≡ Checked.Passed →
+    (job : List ℕ) (verdict : Verdict) → checked_job job (book_of job) ≡ (Ok tt) →
     verdict_on job (rate job) ≡ verdict → Judged job verdict
 unfolding figures_at
 judged_at_own_rate job verdict passed given =
     record {
-      figures = figures_at (criterion_of job) (book_of job) (coefficient (book_of job)) (rate job) (concentration_of job);
-      accepted = ap (λ c. (answer_for c job (book_of job)).outcome) passed;
+      answer = screened_at (criterion_of job) (book_of job) (coefficient (book_of job)) (rate job) (concentration_of job);
+      accepted = ap (λ c. answer_for c job (book_of job)) passed;
       given = given;
     }
 
-module _ (job : List ℕ) (w : ℕ) (passed : checked_job job (book_of job) ≡ Checked.Passed) (within : w ≤ max_rate) where
+module _ (job : List ℕ) (w : ℕ) (passed : checked_job job (book_of job) ≡ Ok tt) (within : w ≤ max_rate) where
   fields : FieldsPass job
   fields = (job_passes job (book_of job) passed).fields
 
@@ -60,7 +60,7 @@ module _ (job : List ℕ) (w : ℕ) (passed : checked_job job (book_of job) ≡ 
   long_enough : job_length ≤ length (with_rate w job)
   long_enough = omega (arith, length-drop rate_length job, fields.long)
 
-  pub passes_at_rate : checked_job (with_rate w job) (book_of (with_rate w job)) ≡ Checked.Passed
+  pub passes_at_rate : checked_job (with_rate w job) (book_of (with_rate w job)) ≡ Ok tt
   passes_at_rate =
       checked_same (with_rate w job) job (rest_kept w job)
       (le-ltb (length (with_rate w job)) job_length long_enough ∙ sym (le-ltb (length job) job_length fields.long))
@@ -80,5 +80,5 @@ module _ (job : List ℕ) (w : ℕ) (passed : checked_job job (book_of job) ≡ 
   own_rate_ignored =
       ap (λ c. lowest_for c (with_rate w job)) passes_at_rate
       ∙ judged_same (with_rate w job) job (rest_kept w job)
-      (λ by book C. first_rate (λ v. says_below (judged by book v C)) 0 (suc max_rate))
+      (λ by book C. Ok (first_rate (λ v. says_below (judged by book v C)) 0 (suc max_rate)))
       ∙ ap (λ c. lowest_for c job) (sym passed)

@@ -1,5 +1,6 @@
 -- What is enough stays enough: at a higher rate no verdict is worse (demand 3), so once the verdict is 'below' it is at
 -- every higher rate.
+use Rattle.std.specs.Prelude.{Option, Ok}
 use Prim.Native.Nat.{ℕ, suc, ◌≤◌, ◌<◌}
 use native.Mathlib.Nat.{le_refl, le_trans}
 use Rattle.std.proofs.Common.{leb}
@@ -7,7 +8,6 @@ use native.Mathlib.Omega.{arith}
 use mathlib.Core.Path.{◌≡◌, refl, ap, sym, ◌∙◌}
 use mathlib.Core.Bool.{true}
 use mathlib.Core.List.{List}
-use Rattle.refusals.specs.declared.Checked.{Checked}
 use Rattle.book.specs.Fields.{coefficient}
 use Rattle.book.specs.BookGrounds.{Accepted}
 use Rattle.book.specs.Held.{held_book}
@@ -30,7 +30,6 @@ use Rattle.screening.proofs.Promised.{demand_3}
 use Rattle.screening.proofs.HeldNumbers.{by_table}
 use Rattle.ventilation.specs.Lowest.{says_below, first_rate, lowest_for, lowest_of}
 use Rattle.ventilation.specs.Private.BelowAt.{below_at}
-use Rattle.ventilation.specs.declared.answer.LowestRate.{LowestRate}
 
 best : (verdict : Verdict) → says_below verdict ≡ true → verdict_order verdict ≤ 0
 best Below e = omega arith
@@ -64,11 +63,11 @@ by_book {by} {v} {C} {r} {book} {table} asked read span k less =
 
 -- The search on what the checks have left of a job is the search on the job.
 pub searched_is :
-    (job : List ℕ) {input : ScreeningInput} {answer : LowestRate} → checked_job job (book_of job) ≡ Checked.Passed →
+    (job : List ℕ) {input : ScreeningInput} {answer : Option ℕ} → checked_job job (book_of job) ≡ Ok tt →
     input ≡ input_of job →
     answer ≡ first_rate (below_at input.by (book_of job) (coefficient (book_of job)) input.concentration) 0 (suc max_rate) →
-    answer ≡ lowest_of job
+    Ok answer ≡ lowest_of job
 searched_is job passed is answer =
-    answer
-    ∙ ap (λ r. first_rate (below_at r.by (book_of job) (coefficient (book_of job)) r.concentration) 0 (suc max_rate)) is
+    ap Ok answer
+    ∙ ap (λ r. Ok (first_rate (below_at r.by (book_of job) (coefficient (book_of job)) r.concentration) 0 (suc max_rate))) is
     ∙ ap (λ found. lowest_for found job) (sym passed)

@@ -1,9 +1,8 @@
 -- A job with a rate written into its rate field, and what is answered to it.
-use Rattle.std.specs.Prelude.{ℕ, ◌/◌, ◌%◌, ◌^◌, ◌≡◌, List, [], ◌∷◌, ◌++◌, drop}
+use Rattle.std.specs.Prelude.{ℕ, ◌/◌, ◌%◌, ◌^◌, ◌≡◌, List, [], ◌∷◌, ◌++◌, drop, Ok}
 use Rattle.screening.specs.Job.{rate_length}
 use Rattle.screening.specs.Screening.{answer_of}
-use Rattle.screening.specs.declared.job.Figures.{Figures}
-use Rattle.screening.specs.declared.job.Outcome.{Outcome}
+use Rattle.screening.specs.declared.job.Answer.{Answer}
 use Rattle.verdict.specs.declared.verdict.Verdict.{Verdict}
 
 -- Four bytes, the lowest first.
@@ -15,6 +14,6 @@ with_rate v job = rate_bytes v ++ drop rate_length job
 
 -- The job is accepted, and this is the verdict on it.
 pub record Judged (job : List ℕ) (verdict : Verdict) : Type 0 where
-  pub figures : Figures
-  pub accepted : (answer_of job).outcome ≡ Outcome.Screened figures
-  pub given : figures.verdict ≡ verdict
+  pub answer : Answer
+  pub accepted : answer_of job ≡ Ok answer
+  pub given : answer.figures.verdict ≡ verdict

@@ -1,7 +1,6 @@
 -- The lowest rate at which the verdict is 'below' (document 02, R-6).
-use Rattle.std.specs.Prelude.{ℕ, ℤ, pos, zero, suc, Bool, true, false, cond, List}
-use Rattle.refusals.specs.Grounds.{refused_number}
-use Rattle.refusals.specs.declared.Checked.{Checked}
+use Rattle.std.specs.Prelude.{ℕ, ℤ, pos, zero, suc, Bool, true, false, cond, List, Option, Some, None, Result, Ok, Err}
+use Rattle.refusals.specs.Grounds.{refused_number, Checked}
 use Rattle.book.specs.Fields.{coefficient}
 use Rattle.book.specs.Rates.{max_rate}
 use Rattle.screening.specs.Job.{concentration_of, book_of}
@@ -10,12 +9,12 @@ use Rattle.verdict.specs.Verdict.{verdict_at}
 use Rattle.screening.specs.Screening.{criterion_of, assessment_at}
 use Rattle.verdict.specs.declared.verdict.Verdict.{Verdict}
 use Rattle.verdict.specs.declared.verdict.Verdict.TheVariants.{Below, Close, Above}
-use Rattle.ventilation.specs.declared.answer.LowestRate.{LowestRate}
+use Rattle.refusals.specs.declared.Refusal.{Refusal}
 
 -- Of so many rates from `v` on, the first at which a test holds, or none.
-unfoldable pub first_rate : (ℕ → Bool) → ℕ → ℕ → LowestRate
-first_rate test v zero = LowestRate.None
-first_rate test v (suc more) = cond (test v) (LowestRate.Rate v) (first_rate test (suc v) more)
+unfoldable pub first_rate : (ℕ → Bool) → ℕ → ℕ → Option ℕ
+first_rate test v zero = None
+first_rate test v (suc more) = cond (test v) (Some v) (first_rate test (suc v) more)
 
 abbrev pub says_below : Verdict → Bool
 says_below Below = true
@@ -28,24 +27,24 @@ verdict_on job v =
     verdict_at (assessment_at (criterion_of job) (book_of job) (coefficient (book_of job)) v) (concentration_of job)
 
 -- The first of 0, 1, … 100,000 at which the verdict is 'below'.
-abbrev pub lowest_rate : List ℕ → LowestRate
+abbrev pub lowest_rate : List ℕ → Option ℕ
 lowest_rate job = first_rate (λ v. says_below (verdict_on job v)) 0 (suc max_rate)
 
 -- A refusal is the whole answer.
-abbrev pub lowest_for : Checked → List ℕ → LowestRate
-lowest_for Checked.Passed job = lowest_rate job
-lowest_for (Checked.Refused refusal) job = LowestRate.Refused refusal
+abbrev pub lowest_for : Checked → List ℕ → Result (Option ℕ) Refusal
+lowest_for (Ok _) job = Ok (lowest_rate job)
+lowest_for (Err refusal) job = Err refusal
 
 -- The number of an answer, as every caller gets it: the rate, one more than the highest where there is none, or minus the
 -- number of the refusal.
 abbrev pub no_rate : ℕ
 no_rate = suc max_rate
 
-abbrev pub lowest_number : LowestRate → ℤ
-lowest_number (LowestRate.Rate v) = pos v
-lowest_number LowestRate.None = pos no_rate
-lowest_number (LowestRate.Refused refusal) = refused_number refusal
+abbrev pub lowest_number : Result (Option ℕ) Refusal → ℤ
+lowest_number (Ok (Some v)) = pos v
+lowest_number (Ok None) = pos no_rate
+lowest_number (Err refusal) = refused_number refusal
 
 -- The job's own rate is checked with the rest, grounds 1 to 18.
-abbrev pub lowest_of : List ℕ → LowestRate
+abbrev pub lowest_of : List ℕ → Result (Option ℕ) Refusal
 lowest_of job = lowest_for (checked_job job (book_of job)) job

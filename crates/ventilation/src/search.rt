@@ -9,7 +9,6 @@ ghost use Rattle.verdict.specs.HeldNumbers.{number_in};
 ghost use Rattle.ventilation.specs.Lowest.{says_below, first_rate};
 ghost use Rattle.ventilation.specs.Private.BelowAt.{below_at};
 
-use crate::answer::LowestRate;
 use book::{COEFFICIENTS, HeldChain, MAX_MEMBERS, MAX_RATE, read_book};
 use screening::{Criterion, ScreeningInput, Verdict, verdict_at};
 
@@ -52,7 +51,7 @@ fn failing_rates(
 
 // The lowest rate for a room whose book is checked. The book is read once, and its arrays are lent.
 #[tactic(auto, using(book::proofs::HeldFields::chain_of))]
-pub(crate) fn lowest_for(input: ScreeningInput, book: &[u8]) -> LowestRate
+pub(crate) fn lowest_for(input: ScreeningInput, book: &[u8]) -> Option<u32>
     requires { Screenable input.by input.rate input.concentration book.now }
     ensures { result ≡ first_rate (below_at input.by book.now (coefficient book.now) input.concentration) 0 (suc max_rate) }
 {
@@ -61,8 +60,8 @@ pub(crate) fn lowest_for(input: ScreeningInput, book: &[u8]) -> LowestRate
     let held = read_book(book);
     let failing = failing_rates(by, concentration, book, &held.chain, &held.coefficients);
     if failing <= MAX_RATE {
-        LowestRate::Rate(failing)
+        Some(failing)
     } else {
-        LowestRate::None
+        None
     }
 }

@@ -1,11 +1,11 @@
 -- What the checks before the last ensure of a list of rates and a book.
-use Rattle.std.specs.Prelude.{ℕ, ◌≤◌, ◌<◌, ◌≡◌, false, cond, List, ltb, length, get_or}
+use Rattle.refusals.specs.declared.Refusal.{Refusal}
+use Rattle.std.specs.Prelude.{ℕ, ◌≤◌, ◌<◌, ◌≡◌, false, cond, List, ltb, length, get_or, Result, Ok, Err}
 use Rattle.refusals.specs.declared.Refusal.TheVariants.{BufferTooShort}
 use Rattle.book.specs.BookGrounds.{Accepted}
 use Rattle.book.specs.Rates.{max_rate}
 use Rattle.balance.specs.Balance.{G}
 use Rattle.tables.specs.Answers.{max_rates, some_rate_too_high}
-use Rattle.tables.specs.declared.TableAnswer.{TableAnswer}
 
 pub record Tabulable (rates book : List ℕ) : Type 0 where
   pub rates_low : some_rate_too_high rates ≡ false
@@ -13,9 +13,9 @@ pub record Tabulable (rates book : List ℕ) : Type 0 where
   pub few : length rates ≤ max_rates
 
 -- The answer then: the text's length where there is room for it.
-abbrev pub fitting_answer : List ℕ → ℕ → TableAnswer
+abbrev pub fitting_answer : List ℕ → ℕ → Result ℕ Refusal
 fitting_answer text capacity =
-    cond (ltb capacity (length text)) (TableAnswer.Refused BufferTooShort) (TableAnswer.Written (length text))
+    cond (ltb capacity (length text)) (Err BufferTooShort) (Ok (length text))
 
 -- What they ensure of one of the rates.
 pub record OneRate (v : ℕ) (book : List ℕ) : Type 0 where

@@ -2,5 +2,5 @@
 use Rattle.book.proofs.MemberGrounds.{members_counted}
 use Rattle.book.proofs.checks.check_feeds.Goals as goal
 
-pub shares_out_too_high-shares-requires : goal.shares_out_too_high-shares-requires
-shares_out_too_high-shares-requires c = members_counted c.args.book.now c.requires
+pub shares_out_too_high-requires : goal.shares_out_too_high-requires
+shares_out_too_high-requires c = members_counted c.args.book.now c.requires
