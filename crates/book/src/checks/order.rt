@@ -6,19 +6,15 @@ ghost use Rattle.book.specs.BookGrounds.{feeds_misplaced, feed_not_from_lower};
 
 use super::super::counts::{feed_count, member_count};
 use super::super::fields::{first_feed, from_of, next_of};
+use numbers::some_below;
 
 // A member after the parent has no feed.
-#[tactic(auto, using(numbers::proofs::Tested::turns))]
 fn later_without_feed(book: &[u8]) -> bool
     ensures { let bytes = book.now in
         result ≡ some_below (members bytes - 1) (λ i. eqb (first_feed bytes (suc i)) 0) }
 {
-    let count = member_count(book);
-    let mut found = false;
-    for i in 0..count.saturating_sub(1) {
-        found = found | (first_feed(book, i + 1) == 0);
-    }
-    found
+    let later = member_count(book).saturating_sub(1);
+    some_below(later, |i| first_feed(book, i + 1) == 0)
 }
 
 #[tactic(auto, unfolding(crate::specs::BookGrounds::feeds_misplaced))]
@@ -45,14 +41,9 @@ fn member_not_from_lower(book: &[u8], i: u16) -> bool
     found
 }
 
-#[tactic(auto, using(numbers::proofs::Tested::turns), unfolding(crate::specs::BookGrounds::feed_not_from_lower))]
+#[tactic(auto, unfolding(crate::specs::BookGrounds::feed_not_from_lower))]
 pub(crate) fn feed_not_from_lower(book: &[u8]) -> bool
     ensures { result ≡ feed_not_from_lower book.now }
 {
-    let count = member_count(book);
-    let mut found = false;
-    for i in 0..count {
-        found = found | member_not_from_lower(book, i);
-    }
-    found
+    some_below(member_count(book), |i| member_not_from_lower(book, i))
 }

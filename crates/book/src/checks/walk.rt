@@ -7,6 +7,7 @@ ghost use Rattle.book.specs.Private.Counted.{Counted};
 
 use super::super::counts::{feed_count, member_count};
 use super::super::fields::{first_feed, next_of};
+use numbers::some_below;
 
 // A third time is no different from a second.
 fn one_more(times: u8) -> u8
@@ -47,16 +48,11 @@ fn count_walk(book: &[u8], counts: &mut [u8; 256])
     }
 }
 
-#[tactic(auto, using(numbers::proofs::Tested::turns), unfolding(crate::specs::BookGrounds::feed_not_once))]
+#[tactic(auto, using(crate::proofs::Counted::once), unfolding(crate::specs::BookGrounds::feed_not_once))]
 pub(crate) fn feed_not_once(book: &[u8]) -> bool
     ensures { result ≡ feed_not_once book.now }
 {
     let mut counts = [0u8; 256];
     count_walk(book, &mut counts);
-    let count = feed_count(book);
-    let mut found = false;
-    for j in 0..count {
-        found = found | (counts[j as usize + 1] != 1);
-    }
-    found
+    some_below(feed_count(book), |j| counts[usize::from(j) + 1] != 1)
 }
