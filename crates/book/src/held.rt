@@ -138,7 +138,7 @@ pub fn read_book(book: &[u8]) -> HeldBook
     ensures { result ≡ held_book book.now }
 {
     let chain = read_chain(book);
-    let divisor = u16_at(book, DIVISOR) as u16;
+    let divisor = u16_at(book, DIVISOR);
     let mut coefficients = [0u32; COEFFICIENTS * MAX_MEMBERS];
     coefficients_in(
         book,
