@@ -22,3 +22,5 @@ module _ (following : ℕ → ℕ) where
   along_step zero j h l = absurd (omega arith)
   along_step (suc left) zero h l = absurd (omega arith)
   along_step (suc left) (suc j) h l = rw sub-one
+
+pub ruleset steps = (along_end, along_cut, along_step)
