@@ -1,12 +1,13 @@
 // A book's chain in arrays, read once.
-ghost use Rattle.std.specs.Prelude.{◌≡◌, ◌≤◌, min, ◌*◌, ◌/◌, ◌%◌, length, replicate};
+ghost use Rattle.std.specs.Prelude.{◌≡◌, ◌≤◌, min, ◌-◌, ◌*◌, ◌/◌, ◌%◌, length, replicate};
 ghost use Rattle.book.specs.Limits.{max_members, max_feeds};
-ghost use Rattle.book.specs.Fields.{half_life, coefficient_count, coefficient};
+ghost use Rattle.book.specs.Fields.{half_life, coefficient_count, coefficient, first_feed, next, along};
 ghost use Rattle.book.specs.Held.{filled, feeds_in_order, feeds_end, held_chain, held_book};
 ghost use Rattle.book.specs.Private.Placed.{Placed, Extended};
 
 use super::counts::member_count;
-use super::fields::{coefficient_of, first_feed, from_of, half_life, next_of, share_of};
+use super::feeds::first_feeds;
+use super::fields::{coefficient_of, from_of, half_life, share_of};
 use super::layout::{COEFFICIENTS, DIVISOR};
 use super::limits::{MAX_FEEDS, MAX_MEMBERS, WHOLE_SHARE};
 use numbers::u16_at;
@@ -30,15 +31,6 @@ pub struct HeldBook {
     pub chain: HeldChain,
     pub divisor: u16,
     pub coefficients: [u32; COEFFICIENTS * MAX_MEMBERS],
-}
-
-fn least(count: u16, limit: usize) -> usize
-    ensures { result ≡ min count limit }
-{
-    if (count as usize) < limit {
-        return count as usize;
-    }
-    limit
 }
 
 fn half_lives_in(book: &[u8], members: usize, list: &mut [u64; MAX_MEMBERS])
@@ -65,24 +57,24 @@ fn coefficients_in(book: &[u8], members: usize, list: &mut [u32; COEFFICIENTS * 
     }
 }
 
-// The feeds along next from `first` on, to the places from `start` on, and the place after the last; cut where the
-// places end.
+// Member i's feeds, to the places from `start` on, and the place after the last; cut where the places end.
 fn feeds_along(
     book: &[u8],
-    first: u8,
+    i: u16,
     start: usize,
     shares: &mut [u32; MAX_FEEDS],
     froms: &mut [u8; MAX_FEEDS],
 ) -> usize
     requires { start ≤ max_feeds }
-    ensures { Extended book.now first start result shares.old froms.old shares.new froms.new }
+    ensures { let bytes = book.now in
+        let feeds = along (next bytes) (max_feeds - start) (first_feed bytes i) in
+        Extended bytes feeds start result shares.old froms.old shares.new froms.new }
 {
-    let mut j = first as u16;
     let mut at = start;
-    while 0 < j && at < MAX_FEEDS {
+    for feed in first_feeds(book, i, MAX_FEEDS - start) {
+        let j = u16::from(feed);
         shares[at] = share_of(book, j);
         froms[at] = from_of(book, j);
-        j = next_of(book, j) as u16;
         at += 1;
     }
     at
@@ -104,7 +96,7 @@ fn feeds_in(
 {
     let mut at = 0;
     for i in 0..members {
-        at = feeds_along(book, first_feed(book, i as u16), at, shares, froms);
+        at = feeds_along(book, i as u16, at, shares, froms);
         ends[i] = at as u8;
     }
 }
@@ -115,7 +107,7 @@ fn feeds_in(
 pub fn read_chain(book: &[u8]) -> HeldChain
     ensures { result ≡ held_chain book.now }
 {
-    let members = least(member_count(book), MAX_MEMBERS);
+    let members = usize::from(member_count(book)).min(MAX_MEMBERS);
     let mut half_lives = [0u64; MAX_MEMBERS];
     let mut ends = [0u8; MAX_MEMBERS];
     let mut shares = [0u32; MAX_FEEDS];
@@ -140,11 +132,7 @@ pub fn read_book(book: &[u8]) -> HeldBook
     let chain = read_chain(book);
     let divisor = u16_at(book, DIVISOR);
     let mut coefficients = [0u32; COEFFICIENTS * MAX_MEMBERS];
-    coefficients_in(
-        book,
-        least(member_count(book), MAX_MEMBERS),
-        &mut coefficients,
-    );
+    coefficients_in(book, chain.members, &mut coefficients);
     HeldBook {
         chain,
         divisor,
