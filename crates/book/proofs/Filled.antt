@@ -90,5 +90,5 @@ filled_by_calls {g = g} {f} {list} {n} count h capacity calls computes =
     calls.long ∙ sym (length-append (up_to count h) (drop count (replicate n 0)) ∙ rw (length_up_to count h, drop-replicate {X = ℕ} count n 0, length-replicate {A = ℕ} (n - count) 0) (omega arith))
     in
     same_number_lists list (filled count h (replicate n 0)) long (λ k l.
-      let within : k < n = omega (arith, calls.long) in
-      made_by (λ i. cond (ltb i count) (h i) 0) calls computes k within ∙ place count h n k within (ltb k count) refl)
+    let within : k < n = omega (arith, calls.long) in
+    made_by (λ i. cond (ltb i count) (h i) 0) calls computes k within ∙ place count h n k within (ltb k count) refl)

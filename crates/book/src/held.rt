@@ -46,7 +46,11 @@ fn half_lives_in(book: &[u8], members: usize) -> [u64; MAX_MEMBERS]
     requires { members ≤ max_members }
     ensures { result ≡ filled members (half_life book.now) (replicate max_members 0) }
 {
-    from_fn(|i| if i < members { half_life(book, i as u16) } else { 0 })
+    from_fn(|i| if i < members {
+        half_life(book, i as u16)
+    } else {
+        0
+    })
 }
 
 // Number k of all that the members have, five to a member, and 0 after the last.
@@ -87,6 +91,7 @@ fn feeds_along(
         let feeds = along (next bytes) (max_feeds - start) (first_feed bytes i) in
         Extended bytes feeds start result shares.old froms.old shares.new froms.new }
 {
+    // With no heap, the feeds lie in fixed arrays with their end beside.
     let mut at = start;
     for feed in first_feeds(book, i, MAX_FEEDS - start) {
         let j = u16::from(feed);

@@ -7,10 +7,5 @@ pub fn some_below<F: Fn(u16) -> bool>(count: u16, test: F) -> bool
     requires { (i : _) → i < count → F.pre test i }
     ensures { TellsSome (F.post test) count result }
 {
-    for i in 0..count {
-        if test(i) {
-            return true;
-        }
-    }
-    false
+    (0..count).any(test)
 }

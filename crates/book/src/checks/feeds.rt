@@ -33,7 +33,10 @@ fn some_first_wrong(book: &[u8]) -> bool
         result ≡ some_below (members bytes) (λ i. ltb (feed_count bytes) (first_feed bytes i)) }
 {
     let feeds = feed_count(book);
-    some_below(member_count(book), |i| feeds < u16::from(first_feed(book, i)))
+    some_below(
+        member_count(book),
+        |i| feeds < u16::from(first_feed(book, i)),
+    )
 }
 
 #[tactic(auto, unfolding(crate::specs::BookGrounds::feed_out_of_range))]

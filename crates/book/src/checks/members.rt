@@ -27,7 +27,10 @@ fn longest_half_life(i: u16) -> u64
 fn coefficient_too_high(book: &[u8], i: u16) -> bool
     ensures { result ≡ some_below coefficient_count (λ which. ltb max_coefficient (coefficient book.now i which)) }
 {
-    some_below(COEFFICIENTS as u16, |which| MAX_COEFFICIENT < coefficient_of(book, i, which))
+    some_below(
+        COEFFICIENTS as u16,
+        |which| MAX_COEFFICIENT < coefficient_of(book, i, which),
+    )
 }
 
 // A number of member i is out of range.

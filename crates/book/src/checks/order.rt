@@ -4,8 +4,8 @@ ghost use Rattle.book.specs.Fields.{members, first_feed, from, feeds_of};
 ghost use Rattle.numbers.specs.Tests.{some_below, some_in};
 ghost use Rattle.book.specs.BookGrounds.{feeds_misplaced, feed_not_from_lower};
 
-use super::super::feeds::feeds_of;
 use super::super::counts::member_count;
+use super::super::feeds::feeds_of;
 use super::super::fields::{first_feed, from_of};
 use numbers::some_below;
 

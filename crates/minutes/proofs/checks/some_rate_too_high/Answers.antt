@@ -9,4 +9,4 @@ any-requires-clause-callable c = serves_from_Range (λ x q k. search rules) (λ 
 
 pub returns : goal.returns
 unfolding period_rate_too_high
-returns c = some_of_any _ _ c.any.ensures.ran refl (omega arith) (λ x b q k. search rules)
+returns c = some_of_any _ _ c.any.ensures.ran refl (omega arith) (λ x b q k. search rules) (λ x b q l k. search rules)
