@@ -1,8 +1,9 @@
 -- The feeds along next, one at a time: a list from j on is j and then the list from the feed after it, with one fewer to
 -- come; it ends at feed 0 and at the cut.
-use Prim.Native.Nat.{ℕ, zero, suc, ◌-◌, ◌<◌}
+use Prim.Native.Nat.{ℕ, zero, suc, ◌-◌, ◌≤◌, ◌<◌}
 use mathlib.Core.Path.{◌≡◌, refl}
 use mathlib.Core.List.{[], ◌∷◌}
+use lib.ListN.{length}
 use native.Mathlib.Numerals.{sub-one}
 use native.Mathlib.Omega.{arith}
 use Rattle.book.specs.Fields.{along}
@@ -22,3 +23,12 @@ module _ (following : ℕ → ℕ) where
   along_step zero j h l = absurd (omega arith)
   along_step (suc left) zero h l = absurd (omega arith)
   along_step (suc left) (suc j) h l = rw sub-one
+
+  -- No more are listed than the cut allows.
+  pub along_within : (left j : ℕ) → length (along following left j) ≤ left
+  unfolding along
+  along_within zero j = omega arith
+  along_within (suc left) zero = omega arith
+  along_within (suc left) (suc j) = omega (arith, along_within left (following (suc j)))
+
+pub ruleset steps = (along_end, along_cut, along_step)

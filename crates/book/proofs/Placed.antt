@@ -1,7 +1,6 @@
--- The feeds in walk order, placed one by one: each goes to the next place, and where there is no feed or no place left,
--- nothing is added.
+-- The feeds in walk order, placed one by one: each goes to the next place, and where no feed is left, nothing is added.
 use Prim.Native.Nat.{ℕ, suc, ◌+◌, ◌-◌, ◌≤◌, ◌<◌}
-use mathlib.Core.Path.{◌≡◌, refl, sym, ◌∙◌, ap}
+use mathlib.Core.Path.{◌≡◌, refl, sym, ◌∙◌}
 use mathlib.Core.List.{List, [], ◌∷◌, ◌++◌, map, map-append, append_assoc, append-nil}
 use native.Mathlib.Numerals.{add-one}
 use native.Mathlib.Omega.{arith}
@@ -11,7 +10,6 @@ use Rattle.book.specs.Limits.{max_feeds}
 use Rattle.book.specs.Fields.{first_feed, share, from, next, along}
 use Rattle.book.specs.Held.{over, feeds_in_order, feeds_end}
 use Rattle.book.specs.Private.Placed.{Placed, Extended}
-use Rattle.book.proofs.Along.{along_end, along_cut, along_step}
 use Rattle.book.proofs.Filled.{Filled, filled_none, filled_more}
 
 length_more : (done : List ℕ) (j : ℕ) → length (done ++ (j ∷ [])) ≡ suc (length done)
@@ -40,42 +38,46 @@ placed_more {book} {done} {shares} {froms} j e h p q r =
       from_list = over_next (from book) done j capacity p.from_list r;
     }
 
-module _ {book : List ℕ} {j at : ℕ} {shares froms : List ℕ} where
-  -- No more feeds, or no more places.
-  nothing : along (next book) (max_feeds - at) j ≡ [] → at ≤ max_feeds → Extended book j at at shares froms shares froms
-  nothing e h = record { capacity = h; placed = λ done size p. rw (e, append-nil done) (size, p) }
-
-  pub at_end : j ≡ 0 → at ≤ max_feeds → Extended book j at at shares froms shares froms
-  at_end e h = nothing (ap (λ k. along (next book) (max_feeds - at) k) e ∙ along_end (next book) (max_feeds - at)) h
-
-  pub at_cut : max_feeds ≤ at → at ≤ max_feeds → Extended book j at at shares froms shares froms
-  at_cut full h =
-      let e : max_feeds - at ≡ 0 = omega arith in
-      nothing (ap (λ l. along (next book) l j) e ∙ along_cut (next book) j) h
+module _ {book : List ℕ} {at : ℕ} {shares froms : List ℕ} where
+  nothing : at ≤ max_feeds → Extended book [] at at shares froms shares froms
+  nothing h = record { capacity = h; placed = λ done size p. rw append-nil (size, p) }
 
   -- One feed, and then those after it.
-  pub onward :
-      {j' s f end : ℕ} {shares' froms' : List ℕ} → 0 < j → at < max_feeds → s ≡ share book j → f ≡ from book j → j' ≡ next book j →
-      Extended book j' (at + 1) end (set shares at s) (set froms at f) shares' froms' → Extended book j at end shares froms shares' froms'
-  onward {j'} {end = end} {shares'} {froms'} some h q r n more =
+  onward :
+      {j s f end : ℕ} {later shares' froms' : List ℕ} → at < max_feeds → s ≡ share book j → f ≡ from book j →
+      Extended book later (at + 1) end (set shares at s) (set froms at f) shares' froms' →
+      Extended book (j ∷ later) at end shares froms shares' froms'
+  onward {j} {later = later} h q r more =
       record {
         capacity = more.capacity;
         placed = λ done size p.
-            let left : max_feeds - (at + 1) ≡ max_feeds - at - 1 = omega arith in
             let larger : length (done ++ (j ∷ [])) ≡ at + 1 = omega (arith, length_more done j) in
             let all = more.placed (done ++ (j ∷ [])) larger (placed_more j size h p q r) in
-            let listed : (done ++ (j ∷ [])) ++ along (next book) (max_feeds - (at + 1)) j' ≡ done ++ along (next book) (max_feeds - at) j =
-            rw (n, left, along_step (next book) (max_feeds - at) j some (omega arith)) (append_assoc done (j ∷ []) _)
-            in
-            rw listed at all;
+            rw (append_assoc done (j ∷ []) later) at all;
       }
 
--- With the feeds from j on still to come.
-pub record Extending (book : List ℕ) (first start : ℕ) (shares₀ froms₀ : List ℕ) (shares froms : List ℕ) (j at : ℕ) : Type 0 where
-  pub place : at ≤ max_feeds
+-- Of the feeds `all`, with these still to come: there is a place for each.
+pub record Extending (book all : List ℕ) (start : ℕ) (shares₀ froms₀ shares froms left : List ℕ) (at : ℕ) : Type 0 where
+  pub place : at + length left ≤ max_feeds
   pub rest :
       {end : ℕ} {shares' froms' : List ℕ} →
-      Extended book j at end shares froms shares' froms' → Extended book first start end shares₀ froms₀ shares' froms'
+      Extended book left at end shares froms shares' froms' → Extended book all start end shares₀ froms₀ shares' froms'
+
+pub extending_none :
+    {book all shares froms : List ℕ} {start : ℕ} →
+    start + length all ≤ max_feeds → Extending book all start shares froms shares froms all start
+extending_none h = record { place = h; rest = λ more. more }
+
+module _ {book all shares₀ froms₀ shares froms left : List ℕ} {start at : ℕ} (e : Extending book all start shares₀ froms₀ shares froms left at) where
+  pub extending_more :
+      {j s f : ℕ} {later : List ℕ} → left ≡ j ∷ later → s ≡ share book j → f ≡ from book j →
+      Extending book all start shares₀ froms₀ (set shares at s) (set froms at f) later (at + 1)
+  extending_more {j} {later = later} r q s =
+      let fits : at + length (j ∷ later) ≤ max_feeds = rw r at e.place in
+      record { place = omega arith; rest = λ more. e.rest (rw r (onward (omega arith) q s more)) }
+
+  pub extending_all : left ≡ [] → Extended book all start at shares₀ froms₀ shares froms
+  extending_all r = e.rest (rw r (nothing (omega (arith, e.place))))
 
 -- After i of `members` turns the feeds of the first i members stand in walk order, and each has its end.
 pub record InOrder (book : List ℕ) (members : ℕ) (ends₀ : List ℕ) (i at : ℕ) (ends shares froms : List ℕ) : Type 0 where
@@ -97,12 +99,13 @@ in_order_none capacity zeros =
 
 module _ {book ends₀ ends shares froms : List ℕ} {members i at : ℕ} (s : InOrder book members ends₀ i at ends shares froms) where
   pub in_order_more :
-      {first end : ℕ} {shares' froms' : List ℕ} → i < members → first ≡ first_feed book i → Extended book first at end shares froms shares' froms' →
+      {end : ℕ} {shares' froms' : List ℕ} → i < members →
+      Extended book (along (next book) (max_feeds - at) (first_feed book i)) at end shares froms shares' froms' →
       InOrder book members ends₀ (i + 1) end (set ends i end) shares' froms'
   unfolding feeds_in_order
-  in_order_more {first} {end} {shares'} {froms'} l e more =
+  in_order_more {end} {shares'} {froms'} l more =
       let all = more.placed (feeds_in_order book i) s.count s.placed in
-      let listed : feeds_in_order book i ++ along (next book) (max_feeds - at) first ≡ feeds_in_order book (suc i) = rw (e, ← s.count) in
+      let listed : feeds_in_order book i ++ along (next book) (max_feeds - at) (first_feed book i) ≡ feeds_in_order book (suc i) = rw (← s.count) refl in
       let next-all : (length (feeds_in_order book (suc i)) ≡ end) × Placed book (feeds_in_order book (suc i)) shares' froms' = rw listed at all in
       record {
         filled_ends = filled_more s.filled_ends l (sym next-all.0);

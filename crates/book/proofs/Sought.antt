@@ -1,25 +1,26 @@
--- A loop along next that keeps whether p holds of a feed met so far. That, or whether it holds of one still to come, is
--- whether it holds of one in the whole list; so where the list ends it is what was asked.
-use Prim.Native.Nat.{ℕ, ◌-◌, ◌<◌}
-use mathlib.Core.Path.{◌≡◌}
-use mathlib.Core.Bool.{Bool, false, ◌||◌, or_assoc, or-false}
-use Rattle.book.specs.Fields.{along}
+-- `any` over feeds along next, where the closure answers p of each, answers whether p holds of one in their list.
+use Prim.Native.Nat.{ℕ}
+use mathlib.Core.Path.{◌≡◌, refl, ap, ◌∙◌}
+use mathlib.Core.Bool.{Bool, ◌||◌}
+use mathlib.Core.List.{List, [], ◌∷◌}
+use denote.Param.Members.{Mut}
+use Rattle.std.specs.Fn.{Called}
+use Rattle.std.specs.Iterator.{ChecksAny, YieldsFirst}
+use Rattle.std.specs.List.{list_any}
+use Rattle.std.proofs.lemmas.Iterator.Consumers.{YieldsList-from_first}
+use Rattle.std.proofs.lemmas.Iterator.Search.{any_from_yields_List}
 use Rattle.numbers.specs.Tests.{some_in}
-use Rattle.book.proofs.Along.{along_end, along_cut, along_step}
+use Rattle.book.specs.Private.Feeds.{feeds_left}
+use Rattle.book.specs.declared.feeds.Feeds.{Feeds}
 
--- Of the feeds from j on, which are still to come.
-module _ (following : ℕ → ℕ) (p : ℕ → Bool) (left j : ℕ) where
-  pub this_or_later :
-      0 < j → 0 < left → some_in (along following left j) p ≡ (p j || some_in (along following (left - 1) (following j)) p)
-  unfolding some_in
-  this_or_later h l = rw (along_step following left j h l)
+listed : (p : ℕ → Bool) (xs : List ℕ) → list_any p xs ≡ some_in xs p
+unfolding some_in
+listed p [] = refl
+listed p (x ∷ xs) = ap (λ b. p x || b) (listed p xs)
 
-  pub none_at_end : j ≡ 0 → some_in (along following left j) p ≡ false
-  unfolding some_in
-  none_at_end e = rw (e, along_end following left)
-
-  pub none_at_cut : left ≡ 0 → some_in (along following left j) p ≡ false
-  unfolding some_in
-  none_at_cut e = rw (e, along_cut following j)
-
-pub ruleset next_turn = (this_or_later, none_at_end, none_at_cut, or_assoc, or-false)
+pub some_of_feeds :
+    {F : Type 0} {g : Mut F (ℕ × Unit {0}) Bool} {f : F} {s : Feeds} {r : Bool} (u : Feeds) (p : ℕ → Bool) (xs : List ℕ) →
+    ChecksAny (YieldsFirst feeds_left) g s f r u → feeds_left s ≡ xs →
+    ((x : ℕ) (b : Bool) (q : F) → Called g f (x, tt) b q → (q ≡ f) × (b ≡ p x)) → r ≡ some_in xs p
+some_of_feeds {f = f} {r = r} u p xs ran whole computes =
+    any_from_yields_List p u f r ran (YieldsList-from_first (λ x. x) feeds_left xs whole) computes ∙ listed p xs

@@ -2,3 +2,4 @@
 pub mod Counted
 pub mod Placed
 pub mod SharesSummed
+pub mod Feeds

@@ -9,12 +9,12 @@ pub fn member_count(book: &[u8]) -> u16
     ensures value { result ≡ members book.now }
     ensures range { result < 2 ^ 8 }
 {
-    u8_at(book, MEMBER_COUNT) as u16
+    u16::from(u8_at(book, MEMBER_COUNT))
 }
 
 pub fn feed_count(book: &[u8]) -> u16
     ensures value { result ≡ feed_count book.now }
     ensures range { result < 2 ^ 8 }
 {
-    u8_at(book, FEED_COUNT) as u16
+    u16::from(u8_at(book, FEED_COUNT))
 }

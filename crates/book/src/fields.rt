@@ -12,7 +12,7 @@ pub(crate) fn member_at(i: u16) -> u32
     ensures value { result ≡ member_at i }
     ensures upper_bound { result < 2 ^ 22 }
 {
-    HEADER_LENGTH + MEMBER_LENGTH * (i as u32)
+    HEADER_LENGTH + MEMBER_LENGTH * u32::from(i)
 }
 
 pub(crate) fn half_life(book: &[u8], i: u16) -> u64
@@ -24,13 +24,13 @@ pub(crate) fn half_life(book: &[u8], i: u16) -> u64
 pub(crate) fn coefficient_of(book: &[u8], i: u16, which: u16) -> u32
     ensures { result ≡ coefficient book.now i which }
 {
-    u32_at(book, member_at(i) + NUMBERS + 4 * (which as u32)) as u32
+    u32_at(book, member_at(i) + NUMBERS + 4 * u32::from(which))
 }
 
 pub(crate) fn first_feed(book: &[u8], i: u16) -> u8
     ensures { result ≡ first_feed book.now i }
 {
-    u8_at(book, member_at(i) + FIRST) as u8
+    u8_at(book, member_at(i) + FIRST)
 }
 
 // The feeds follow the members, and count from 1.
@@ -38,20 +38,20 @@ pub(crate) fn feed_at(book: &[u8], j: u16) -> u32
     ensures value { result ≡ feed_at book.now j }
     ensures upper_bound { result < 2 ^ 20 }
 {
-    MEMBER_LENGTH * (member_count(book) as u32) + FEED_LENGTH * (j as u32)
+    MEMBER_LENGTH * u32::from(member_count(book)) + FEED_LENGTH * u32::from(j)
 }
 
 pub(crate) fn share_of(book: &[u8], j: u16) -> u32
     ensures { result ≡ share book.now j }
 {
-    u32_at(book, feed_at(book, j)) as u32
+    u32_at(book, feed_at(book, j))
 }
 
 // A byte of feed j, `skip` places after its share's first.
 pub(crate) fn feed_byte(book: &[u8], j: u16, skip: u8) -> u8
     ensures { result ≡ u8_at book.now (feed_at book.now j + skip) }
 {
-    u8_at(book, feed_at(book, j) + skip as u32) as u8
+    u8_at(book, feed_at(book, j) + u32::from(skip))
 }
 
 pub(crate) fn from_of(book: &[u8], j: u16) -> u8

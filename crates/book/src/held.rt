@@ -1,15 +1,17 @@
 // A book's chain in arrays, read once.
-ghost use Rattle.std.specs.Prelude.{◌≡◌, ◌≤◌, min, ◌*◌, ◌/◌, ◌%◌, length, replicate};
+ghost use Rattle.std.specs.Prelude.{◌≡◌, ◌≤◌, cond, ltb, ◌-◌, ◌*◌, ◌/◌, ◌%◌, length, replicate};
 ghost use Rattle.book.specs.Limits.{max_members, max_feeds};
-ghost use Rattle.book.specs.Fields.{half_life, coefficient_count, coefficient};
-ghost use Rattle.book.specs.Held.{filled, feeds_in_order, feeds_end, held_chain, held_book};
+ghost use Rattle.book.specs.Fields.{half_life, coefficient_count, coefficient, first_feed, next, along};
+ghost use Rattle.book.specs.Held.{member_places, filled, feeds_in_order, feeds_end, held_chain, held_book};
 ghost use Rattle.book.specs.Private.Placed.{Placed, Extended};
 
 use super::counts::member_count;
-use super::fields::{coefficient_of, first_feed, from_of, half_life, next_of, share_of};
+use super::feeds::first_feeds;
+use super::fields::{coefficient_of, from_of, half_life, share_of};
 use super::layout::{COEFFICIENTS, DIVISOR};
 use super::limits::{MAX_FEEDS, MAX_MEMBERS, WHOLE_SHARE};
 use numbers::u16_at;
+use std::array::from_fn;
 
 // What the balance is worked out from. The feeds stand in the order in which the members' walks meet them: member i's
 // are those from the end of member i - 1's on, and up to its own end.
@@ -32,57 +34,69 @@ pub struct HeldBook {
     pub coefficients: [u32; COEFFICIENTS * MAX_MEMBERS],
 }
 
-fn least(count: u16, limit: usize) -> usize
-    ensures { result ≡ min count limit }
+// How many members are held.
+fn member_places(book: &[u8]) -> usize
+    ensures { result ≡ member_places book.now }
 {
-    if (count as usize) < limit {
-        return count as usize;
-    }
-    limit
+    usize::from(member_count(book)).min(MAX_MEMBERS)
 }
 
-fn half_lives_in(book: &[u8], members: usize, list: &mut [u64; MAX_MEMBERS])
-    requires members_le_max_members { members ≤ max_members }
-    requires list_len { length list.old ≡ max_members }
-    ensures { list.new ≡ filled members (half_life book.now) list.old }
+// Of each member its half-life, and 0 in the places after the last.
+fn half_lives_in(book: &[u8], members: usize) -> [u64; MAX_MEMBERS]
+    requires { members ≤ max_members }
+    ensures { result ≡ filled members (half_life book.now) (replicate max_members 0) }
 {
-    for i in 0..members {
-        list[i] = half_life(book, i as u16);
+    from_fn(|i| if i < members {
+        half_life(book, i as u16)
+    } else {
+        0
+    })
+}
+
+// Number k of all that the members have, five to a member, and 0 after the last.
+fn number_in(book: &[u8], members: usize, k: usize) -> u32
+    requires { members ≤ max_members }
+    ensures { result
+        ≡ cond (ltb k (coefficient_count * members)) (coefficient book.now (k / coefficient_count) (k % coefficient_count)) 0 }
+{
+    if k < COEFFICIENTS * members {
+        coefficient_of(book, (k / COEFFICIENTS) as u16, (k % COEFFICIENTS) as u16)
+    } else {
+        0
     }
 }
 
-fn coefficients_in(book: &[u8], members: usize, list: &mut [u32; COEFFICIENTS * MAX_MEMBERS])
-    requires members_le_max_members { members ≤ max_members }
-    requires list_len { length list.old ≡ coefficient_count * max_members }
-    ensures { list.new
+// The members' numbers in the same way.
+fn coefficients_in(book: &[u8], members: usize) -> [u32; COEFFICIENTS * MAX_MEMBERS]
+    requires { members ≤ max_members }
+    ensures { result
         ≡ filled
         (coefficient_count * members)
         (λ k. coefficient book.now (k / coefficient_count) (k % coefficient_count))
-        list.old }
+        (replicate (coefficient_count * max_members) 0) }
 {
-    for k in 0..COEFFICIENTS * members {
-        list[k] = coefficient_of(book, (k / COEFFICIENTS) as u16, (k % COEFFICIENTS) as u16);
-    }
+    from_fn(|k| number_in(book, members, k))
 }
 
-// The feeds along next from `first` on, to the places from `start` on, and the place after the last; cut where the
-// places end.
+// Member i's feeds, to the places from `start` on, and the place after the last; cut where the places end.
 fn feeds_along(
     book: &[u8],
-    first: u8,
+    i: u16,
     start: usize,
     shares: &mut [u32; MAX_FEEDS],
     froms: &mut [u8; MAX_FEEDS],
 ) -> usize
     requires { start ≤ max_feeds }
-    ensures { Extended book.now first start result shares.old froms.old shares.new froms.new }
+    ensures { let bytes = book.now in
+        let feeds = along (next bytes) (max_feeds - start) (first_feed bytes i) in
+        Extended bytes feeds start result shares.old froms.old shares.new froms.new }
 {
-    let mut j = first as u16;
+    // With no heap, the feeds lie in fixed arrays with their end beside.
     let mut at = start;
-    while 0 < j && at < MAX_FEEDS {
+    for feed in first_feeds(book, i, MAX_FEEDS - start) {
+        let j = u16::from(feed);
         shares[at] = share_of(book, j);
         froms[at] = from_of(book, j);
-        j = next_of(book, j) as u16;
         at += 1;
     }
     at
@@ -104,7 +118,7 @@ fn feeds_in(
 {
     let mut at = 0;
     for i in 0..members {
-        at = feeds_along(book, first_feed(book, i as u16), at, shares, froms);
+        at = feeds_along(book, i as u16, at, shares, froms);
         ends[i] = at as u8;
     }
 }
@@ -115,17 +129,15 @@ fn feeds_in(
 pub fn read_chain(book: &[u8]) -> HeldChain
     ensures { result ≡ held_chain book.now }
 {
-    let members = least(member_count(book), MAX_MEMBERS);
-    let mut half_lives = [0u64; MAX_MEMBERS];
+    let members = member_places(book);
     let mut ends = [0u8; MAX_MEMBERS];
     let mut shares = [0u32; MAX_FEEDS];
     let mut froms = [0u8; MAX_FEEDS];
-    half_lives_in(book, members, &mut half_lives);
     feeds_in(book, members, &mut ends, &mut shares, &mut froms);
     HeldChain {
         members,
         scale: WHOLE_SHARE,
-        half_lives,
+        half_lives: half_lives_in(book, members),
         ends,
         shares,
         froms,
@@ -137,17 +149,9 @@ pub fn read_chain(book: &[u8]) -> HeldChain
 pub fn read_book(book: &[u8]) -> HeldBook
     ensures { result ≡ held_book book.now }
 {
-    let chain = read_chain(book);
-    let divisor = u16_at(book, DIVISOR) as u16;
-    let mut coefficients = [0u32; COEFFICIENTS * MAX_MEMBERS];
-    coefficients_in(
-        book,
-        least(member_count(book), MAX_MEMBERS),
-        &mut coefficients,
-    );
     HeldBook {
-        chain,
-        divisor,
-        coefficients,
+        chain: read_chain(book),
+        divisor: u16_at(book, DIVISOR),
+        coefficients: coefficients_in(book, member_places(book)),
     }
 }

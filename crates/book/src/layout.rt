@@ -34,7 +34,7 @@ pub(crate) const DIVISOR: u32 = 2;
 
 pub(crate) const HEADER_ZEROS: u32 = 4;
 
-pub(crate) const HEADER_ZERO_COUNT: u32 = 4;
+pub(crate) const HEADER_ZERO_COUNT: u16 = 4;
 
 // In a member, whose half-life comes first.
 pub(crate) const NUMBERS: u32 = 8;
@@ -43,7 +43,7 @@ pub(crate) const FIRST: u32 = 28;
 
 pub(crate) const MEMBER_ZEROS: u32 = 29;
 
-pub(crate) const MEMBER_ZERO_COUNT: u32 = 3;
+pub(crate) const MEMBER_ZERO_COUNT: u16 = 3;
 
 // In a feed, whose share comes first.
 pub(crate) const FROM: u8 = 4;
@@ -52,4 +52,4 @@ pub(crate) const NEXT: u8 = 5;
 
 pub(crate) const FEED_ZEROS: u32 = 6;
 
-pub(crate) const FEED_ZERO_COUNT: u32 = 2;
+pub(crate) const FEED_ZERO_COUNT: u16 = 2;

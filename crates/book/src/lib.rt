@@ -3,6 +3,7 @@
 
 mod checks;
 mod counts;
+mod feeds;
 mod fields;
 mod held;
 mod layout;

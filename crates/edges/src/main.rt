@@ -17,7 +17,7 @@ const MOST: u32 = 100_000;
 const HEAD: usize = 8;
 
 // No recorded case has a longer list, and no recording more bytes.
-const MOST_PLACES: u64 = 20;
+const MOST_PLACES: u16 = 20;
 
 const MOST_BYTES: u64 = 65_536;
 
@@ -44,7 +44,7 @@ fn next_body<R: Read>(alloc: Global, input: &mut R) -> Result<Option<Vec<u8>>> {
     if head.len() < HEAD {
         return Ok(None);
     }
-    let book = u16_at(&head, 6) as usize;
+    let book = usize::from(u16_at(&head, 6));
     if MOST_PLACES < u16_at(&head, 4) {
         return Ok(None);
     }

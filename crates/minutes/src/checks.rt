@@ -24,16 +24,12 @@ pub(crate) fn check_periods(periods: &[u32], book: &[u8], capacity: usize) -> Re
 }
 
 // Every second number is a rate, an unpaired last one included.
-#[tactic(auto, using(numbers::proofs::Tested::turns), unfolding(crate::specs::Periods::period_rate_too_high))]
+#[tactic(auto, unfolding(crate::specs::Periods::period_rate_too_high))]
 fn some_rate_too_high(periods: &[u32]) -> bool
     ensures { result ≡ period_rate_too_high periods.now }
 {
     let count = periods.len() - periods.len() / 2;
-    let mut found = false;
-    for p in 0..count {
-        found = found | (MAX_RATE < periods[2 * p]);
-    }
-    found
+    (0..count).any(|p| MAX_RATE < periods[2 * p])
 }
 
 // The list's length, how many periods there are, and how long each is.
@@ -47,16 +43,11 @@ fn periods_out_of_range(periods: &[u32]) -> bool
     unpaired | miscounted | some_length_out_of_range(periods)
 }
 
-#[tactic(auto, using(numbers::proofs::Tested::turns))]
 fn some_length_out_of_range(periods: &[u32]) -> bool
     ensures { result ≡ some_below (period_count periods.now) (λ p. outside 1 max_minutes (minutes_of periods.now p)) }
 {
     let count = periods.len() / 2;
-    let mut found = false;
-    for p in 0..count {
-        found = found | length_out_of_range(periods[2 * p + 1]);
-    }
-    found
+    (0..count).any(|p| length_out_of_range(periods[2 * p + 1]))
 }
 
 fn length_out_of_range(minutes: u32) -> bool

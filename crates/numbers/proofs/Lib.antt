@@ -3,4 +3,5 @@
 pub mod Sums
 pub mod NoneMet
 pub mod Tested
+pub mod Made
 pub mod Bisection

@@ -1,83 +1,48 @@
 // Little-endian numbers in a list of bytes; past the end a byte reads as 0.
-ghost use Rattle.std.specs.Prelude.{◌≡◌, ◌<◌, ◌≤◌, ◌+◌, ◌-◌, ◌^◌, length};
+ghost use Rattle.std.specs.Prelude.{◌≡◌, ◌<◌, ◌≤◌, ◌+◌, ◌^◌, length, get_or};
 ghost use Rattle.numbers.specs.Bytes.{u8_at, u16_at, u32_at, u64_at};
 
-fn widened(byte: u8) -> u64
-    ensures { (result ≡ byte) × (result < 2 ^ 8) }
+use std::array::from_fn;
+
+fn byte_at(bytes: &[u8], at: usize) -> u8
+    ensures { result ≡ u8_at bytes.now at }
 {
-    byte as u64
+    bytes.get(at).copied().unwrap_or(0)
 }
 
-fn byte_at(bytes: &[u8], at: usize) -> u64
-    ensures value { result ≡ u8_at bytes.now at }
-    ensures range { result < 2 ^ 8 }
+// The N bytes from `at` on. Where all are there, a machine reads them as one word.
+fn bytes_from<const N: usize>(bytes: &[u8], at: u32) -> [u8; N]
+    requires { N < 2 ^ 32 }
+    ensures size { length result ≡ N }
+    ensures each { (k : _) → k < N → get_or result k 0 ≡ u8_at bytes.now (at + k) }
 {
-    if at < bytes.len() {
-        return widened(bytes[at]);
+    let at = at as usize;
+    if at + N <= bytes.len() {
+        return from_fn(|k| bytes[at + k]);
     }
-    0
+    from_fn(|k| byte_at(bytes, at + k))
 }
 
-pub fn u8_at(bytes: &[u8], at: u32) -> u64
-    ensures value { result ≡ u8_at bytes.now at }
-    ensures range { result < 2 ^ 8 }
+pub fn u8_at(bytes: &[u8], at: u32) -> u8
+    ensures { result ≡ u8_at bytes.now at }
 {
     byte_at(bytes, at as usize)
 }
 
-pub fn u16_at(bytes: &[u8], at: u32) -> u64
-    ensures value { result ≡ u16_at bytes.now at }
-    ensures range { result < 2 ^ 16 }
+pub fn u16_at(bytes: &[u8], at: u32) -> u16
+    ensures { result ≡ u16_at bytes.now at }
 {
-    pair_at(bytes, at as usize)
+    u16::from_le_bytes(bytes_from(bytes, at))
 }
 
-fn pair_at(bytes: &[u8], at: usize) -> u64
-    requires { at < 2 ^ 33 }
-    ensures value { result ≡ u16_at bytes.now at }
-    ensures range { result < 2 ^ 16 }
+pub fn u32_at(bytes: &[u8], at: u32) -> u32
+    ensures { result ≡ u32_at bytes.now at }
 {
-    byte_at(bytes, at) + 0x100 * byte_at(bytes, at + 1)
-}
-
-// Bytes that are all there: a machine reads two or four of them as one word.
-fn pair_in(bytes: &[u8], at: usize) -> u64
-    requires { at + 2 ≤ length bytes.now }
-    ensures value { result ≡ u16_at bytes.now at }
-    ensures range { result < 2 ^ 16 }
-{
-    widened(bytes[at]) + 0x100 * widened(bytes[at + 1])
-}
-
-fn four_in(bytes: &[u8], at: usize) -> u64
-    requires { at + 4 ≤ length bytes.now }
-    ensures value { result ≡ u32_at bytes.now at }
-    ensures range { result < 2 ^ 32 }
-{
-    pair_in(bytes, at) + 0x1_0000 * pair_in(bytes, at + 2)
-}
-
-fn four_at(bytes: &[u8], at: usize) -> u64
-    requires { at < 2 ^ 33 - 4 }
-    ensures value { result ≡ u32_at bytes.now at }
-    ensures range { result < 2 ^ 32 }
-{
-    if at + 4 <= bytes.len() {
-        return four_in(bytes, at);
-    }
-    pair_at(bytes, at) + 0x1_0000 * pair_at(bytes, at + 2)
-}
-
-pub fn u32_at(bytes: &[u8], at: u32) -> u64
-    ensures value { result ≡ u32_at bytes.now at }
-    ensures range { result < 2 ^ 32 }
-{
-    four_at(bytes, at as usize)
+    u32::from_le_bytes(bytes_from(bytes, at))
 }
 
 pub fn u64_at(bytes: &[u8], at: u32) -> u64
     ensures { result ≡ u64_at bytes.now at }
 {
-    let low = four_at(bytes, at as usize);
-    low + 0x1_0000_0000 * four_at(bytes, at as usize + 4)
+    u64::from_le_bytes(bytes_from(bytes, at))
 }

@@ -2,5 +2,7 @@
 #![tactic(auto)]
 
 mod bytes;
+mod tests;
 
 pub use bytes::{u8_at, u16_at, u32_at, u64_at};
+pub use tests::some_below;

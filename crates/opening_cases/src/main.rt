@@ -18,11 +18,11 @@ const MOST: u32 = 100_000;
 const HEAD: usize = 8;
 
 // No recorded case has a longer list, more numbers or a longer book.
-const MOST_PLACES: u64 = 20;
+const MOST_PLACES: u16 = 20;
 
-const MOST_NUMBERS: u64 = 100;
+const MOST_NUMBERS: u16 = 100;
 
-const MOST_BOOK: u64 = 2_000;
+const MOST_BOOK: u16 = 2_000;
 
 fn main(rt: HostRuntime) -> ExitCode {
     let answered = answer_all(&rt);
@@ -52,7 +52,7 @@ fn next_body<R: Read>(alloc: Global, input: &mut R) -> Result<Option<Vec<u8>>> {
     if MOST_PLACES < u16_at(&head, 0) || MOST_NUMBERS < numbers || MOST_BOOK < book {
         return Ok(None);
     }
-    let rest = (4 * numbers + book) as usize;
+    let rest = 4 * usize::from(numbers) + usize::from(book);
     let body = read_body(alloc, input, &head[..4], rest)?;
     if body.len() < 4 + rest {
         return Ok(None);

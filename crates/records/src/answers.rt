@@ -40,8 +40,8 @@ pub fn lowest_case(alloc: Global, job: &[u8]) -> Result<Vec<u8>, AllocError>
 pub fn factors_case(alloc: Global, body: &[u8]) -> Result<Vec<u8>, AllocError>
     ensures { IfOk result (λ text. text.items ≡ factors_case body.now) }
 {
-    let rate = u32_at(body, 0) as u32;
-    let mut list = vec![in alloc; PLACE; u16_at(body, 4) as usize]?;
+    let rate = u32_at(body, 0);
+    let mut list = vec![in alloc; PLACE; usize::from(u16_at(body, 4))]?;
     let answer = factors(rate, rest(body, 6), &mut list);
     written(alloc, answer, &list)
 }
@@ -50,10 +50,10 @@ pub fn factors_case(alloc: Global, body: &[u8]) -> Result<Vec<u8>, AllocError>
 pub fn opening_case(alloc: Global, body: &[u8]) -> Result<Vec<u8>, AllocError>
     ensures { IfOk result (λ text. text.items ≡ opening_case body.now) }
 {
-    let mut list = vec![in alloc; PLACE; u16_at(body, 0) as usize]?;
+    let mut list = vec![in alloc; PLACE; usize::from(u16_at(body, 0))]?;
     let count = u16_at(body, 2);
     let periods = numbers(alloc, body, 4, count)?;
-    let answer = factors_after(&periods, rest(body, 4 + 4 * count as usize), &mut list);
+    let answer = factors_after(&periods, rest(body, 4 + 4 * usize::from(count)), &mut list);
     written(alloc, answer, &list)
 }
 
@@ -64,7 +64,7 @@ pub fn table_case(alloc: Global, body: &[u8]) -> Result<Vec<u8>, AllocError>
     let mut buffer = vec![in alloc; BYTE; u32_at(body, 0) as usize]?;
     let count = u16_at(body, 4);
     let rates = numbers(alloc, body, 6, count)?;
-    let answer = tabulate(&rates, rest(body, 6 + 4 * count as usize), &mut buffer);
+    let answer = tabulate(&rates, rest(body, 6 + 4 * usize::from(count)), &mut buffer);
     let mut text = Vec::new(alloc);
     push_measured(&mut text, answer)?;
     text.extend_from_slice(&buffer)?;
@@ -104,13 +104,13 @@ fn push_counted(text: &mut Vec<u8>, answer: FactorAnswer) -> Result<(), AllocErr
 
 // So many numbers of four bytes each from an offset on.
 #[tactic(auto, using(crate::proofs::Turns::turns))]
-fn numbers(alloc: Global, body: &[u8], offset: u32, count: u64) -> Result<Vec<u32>, AllocError>
-    requires within { (offset < 8) × (count < 65536) }
+fn numbers(alloc: Global, body: &[u8], offset: u32, count: u16) -> Result<Vec<u32>, AllocError>
+    requires within { offset < 8 }
     ensures { IfOk result (λ list. list.items ≡ numbers_at body.now offset count) }
 {
     let mut list = Vec::new(alloc);
-    for i in 0..count as u32 {
-        list.push(u32_at(body, offset + 4 * i) as u32)?;
+    for i in 0..u32::from(count) {
+        list.push(u32_at(body, offset + 4 * i))?;
     }
     Ok(list)
 }

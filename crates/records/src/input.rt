@@ -35,7 +35,7 @@ pub fn read_record<R: Read>(input: &mut R, into: &mut [u8]) -> Result<Record>
     if read_full(input, &mut head)? < 2 {
         return Ok(NO_RECORD);
     }
-    let size = into.len().min(u16_at(&head, 0) as usize);
+    let size = into.len().min(usize::from(u16_at(&head, 0)));
     let length = read_full(input, &mut into[..size])?;
     Ok(Record { read: true, length })
 }

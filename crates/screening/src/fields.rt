@@ -51,13 +51,13 @@ fn longest_job() -> usize
 pub(crate) fn rate_of(job: &[u8]) -> u32
     ensures { result ≡ rate job.now }
 {
-    u32_at(job, RATE) as u32
+    u32_at(job, RATE)
 }
 
 pub(crate) fn kind_code(job: &[u8]) -> u8
     ensures { result ≡ kind job.now }
 {
-    u8_at(job, KIND) as u8
+    u8_at(job, KIND)
 }
 
 // Kinds 0, 1; any other code is taken as 1, and the checks refuse it.
@@ -73,7 +73,7 @@ pub(crate) fn kind_of(job: &[u8]) -> Kind
 pub(crate) fn medium_code(job: &[u8]) -> u8
     ensures { result ≡ medium job.now }
 {
-    u8_at(job, MEDIUM) as u8
+    u8_at(job, MEDIUM)
 }
 
 pub(crate) fn medium_of(job: &[u8]) -> Medium
@@ -85,25 +85,25 @@ pub(crate) fn medium_of(job: &[u8]) -> Medium
 pub(crate) fn unit_code(job: &[u8]) -> u8
     ensures { result ≡ unit job.now }
 {
-    u8_at(job, UNIT) as u8
+    u8_at(job, UNIT)
 }
 
 pub(crate) fn zero_byte(job: &[u8]) -> u8
     ensures { result ≡ zero_byte job.now }
 {
-    u8_at(job, ZERO) as u8
+    u8_at(job, ZERO)
 }
 
 pub(crate) fn target_of(job: &[u8]) -> u32
     ensures { result ≡ target job.now }
 {
-    u32_at(job, TARGET) as u32
+    u32_at(job, TARGET)
 }
 
 pub(crate) fn attenuation_of(job: &[u8]) -> u32
     ensures { result ≡ attenuation job.now }
 {
-    u32_at(job, ATTENUATION) as u32
+    u32_at(job, ATTENUATION)
 }
 
 // Ground 7. It is told from the patterns, since a NaN's cannot become an f64.
@@ -130,10 +130,10 @@ fn group_at(job: &[u8], at: u32) -> Group
     ensures { result ≡ group_at job.now at }
 {
     Group {
-        days: u16_at(job, at) as u16,
-        years: u16_at(job, at + 2) as u16,
-        quarter_hours: u16_at(job, at + 4) as u16,
-        breathing: u16_at(job, at + 6) as u16,
+        days: u16_at(job, at),
+        years: u16_at(job, at + 2),
+        quarter_hours: u16_at(job, at + 4),
+        breathing: u16_at(job, at + 6),
     }
 }
 

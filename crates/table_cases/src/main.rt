@@ -17,11 +17,11 @@ const MOST: u32 = 100_000;
 const HEAD: usize = 8;
 
 // No recorded case has a longer buffer, more rates or a longer book.
-const MOST_ROOM: u64 = 65_536;
+const MOST_ROOM: u32 = 65_536;
 
-const MOST_RATES: u64 = 300;
+const MOST_RATES: u16 = 300;
 
-const MOST_BOOK: u64 = 2_000;
+const MOST_BOOK: u16 = 2_000;
 
 fn main(rt: HostRuntime) -> ExitCode {
     let answered = answer_all(&rt);
@@ -51,6 +51,7 @@ fn next_body<R: Read>(alloc: Global, input: &mut R) -> Result<Option<Vec<u8>>> {
     if MOST_ROOM < u32_at(&head, 0) || MOST_RATES < rates || MOST_BOOK < book {
         return Ok(None);
     }
-    let body = read_body(alloc, input, &head[..6], (4 * rates + book) as usize)?;
+    let rest = 4 * usize::from(rates) + usize::from(book);
+    let body = read_body(alloc, input, &head[..6], rest)?;
     Ok(Some(body))
 }

@@ -23,13 +23,9 @@ pub(crate) fn check_table(rates: &[u32], book: &[u8]) -> Result<(), Refusal>
 }
 
 // One of them exceeds the highest.
-#[tactic(auto, using(numbers::proofs::Tested::turns), unfolding(crate::specs::Answers::some_rate_too_high))]
+#[tactic(auto, unfolding(crate::specs::Answers::some_rate_too_high))]
 fn some_rate_too_high(rates: &[u32]) -> bool
     ensures { result ≡ some_rate_too_high rates.now }
 {
-    let mut found = false;
-    for i in 0..rates.len() {
-        found = found | (MAX_RATE < rates[i]);
-    }
-    found
+    rates.iter().any(|rate| MAX_RATE < *rate)
 }

@@ -10,6 +10,7 @@ use super::super::fields::{coefficient_of, half_life};
 use super::super::layout::COEFFICIENTS;
 use super::super::limits::{MAX_COEFFICIENT, MAX_HALF_LIFE, MAX_PARENT_HALF_LIFE};
 use super::bools::is_outside;
+use numbers::some_below;
 
 // The longest half-life that member i may have.
 fn longest_half_life(i: u16) -> u64
@@ -23,15 +24,13 @@ fn longest_half_life(i: u16) -> u64
 }
 
 // One of member i's five numbers is too high.
-#[tactic(auto, using(numbers::proofs::Tested::turns))]
 fn coefficient_too_high(book: &[u8], i: u16) -> bool
     ensures { result ≡ some_below coefficient_count (λ which. ltb max_coefficient (coefficient book.now i which)) }
 {
-    let mut found = false;
-    for which in 0..COEFFICIENTS as u16 {
-        found = found | (MAX_COEFFICIENT < coefficient_of(book, i, which));
-    }
-    found
+    some_below(
+        COEFFICIENTS as u16,
+        |which| MAX_COEFFICIENT < coefficient_of(book, i, which),
+    )
 }
 
 // A number of member i is out of range.
@@ -42,14 +41,9 @@ fn member_wrong(book: &[u8], i: u16) -> bool
     half_life_wrong | coefficient_too_high(book, i)
 }
 
-#[tactic(auto, using(numbers::proofs::Tested::turns), unfolding(crate::specs::BookGrounds::member_out_of_range))]
+#[tactic(auto, unfolding(crate::specs::BookGrounds::member_out_of_range))]
 pub(crate) fn member_out_of_range(book: &[u8]) -> bool
     ensures { result ≡ member_out_of_range book.now }
 {
-    let count = member_count(book);
-    let mut found = false;
-    for i in 0..count {
-        found = found | member_wrong(book, i);
-    }
-    found
+    some_below(member_count(book), |i| member_wrong(book, i))
 }

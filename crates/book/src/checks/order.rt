@@ -4,21 +4,18 @@ ghost use Rattle.book.specs.Fields.{members, first_feed, from, feeds_of};
 ghost use Rattle.numbers.specs.Tests.{some_below, some_in};
 ghost use Rattle.book.specs.BookGrounds.{feeds_misplaced, feed_not_from_lower};
 
-use super::super::counts::{feed_count, member_count};
-use super::super::fields::{first_feed, from_of, next_of};
+use super::super::counts::member_count;
+use super::super::feeds::feeds_of;
+use super::super::fields::{first_feed, from_of};
+use numbers::some_below;
 
 // A member after the parent has no feed.
-#[tactic(auto, using(numbers::proofs::Tested::turns))]
 fn later_without_feed(book: &[u8]) -> bool
     ensures { let bytes = book.now in
         result ≡ some_below (members bytes - 1) (λ i. eqb (first_feed bytes (suc i)) 0) }
 {
-    let count = member_count(book);
-    let mut found = false;
-    for i in 0..count.saturating_sub(1) {
-        found = found | (first_feed(book, i + 1) == 0);
-    }
-    found
+    let later = member_count(book).saturating_sub(1);
+    some_below(later, |i| first_feed(book, i + 1) == 0)
 }
 
 #[tactic(auto, unfolding(crate::specs::BookGrounds::feeds_misplaced))]
@@ -29,30 +26,16 @@ pub(crate) fn feeds_misplaced(book: &[u8]) -> bool
 }
 
 // One of member i's feeds isn't from a lower member.
-#[tactic(auto, using(crate::proofs::Sought::next_turn))]
 fn member_not_from_lower(book: &[u8], i: u16) -> bool
     ensures { let bytes = book.now in
         result ≡ some_in (feeds_of bytes i) (λ j. leb i (from bytes j)) }
 {
-    let mut found = false;
-    let mut j = first_feed(book, i) as u16;
-    let mut left = feed_count(book) + 1;
-    while 0 < j && 0 < left {
-        found = found | (i <= from_of(book, j) as u16);
-        j = next_of(book, j) as u16;
-        left -= 1;
-    }
-    found
+    feeds_of(book, i).any(|j| i <= u16::from(from_of(book, u16::from(j))))
 }
 
-#[tactic(auto, using(numbers::proofs::Tested::turns), unfolding(crate::specs::BookGrounds::feed_not_from_lower))]
+#[tactic(auto, unfolding(crate::specs::BookGrounds::feed_not_from_lower))]
 pub(crate) fn feed_not_from_lower(book: &[u8]) -> bool
     ensures { result ≡ feed_not_from_lower book.now }
 {
-    let count = member_count(book);
-    let mut found = false;
-    for i in 0..count {
-        found = found | member_not_from_lower(book, i);
-    }
-    found
+    some_below(member_count(book), |i| member_not_from_lower(book, i))
 }

@@ -8,15 +8,16 @@ ghost use Rattle.book.specs.Private.SharesSummed.{SumsFit, SharesSummed};
 use super::super::counts::{feed_count, member_count};
 use super::super::fields::{from_of, share_of};
 use super::super::limits::{MAX_MEMBERS, WHOLE_SHARE};
+use numbers::some_below;
 
 // Adds a share to the sum of the member that it leaves; one past the places has none.
 fn add_share(sums: &mut [u64; MAX_MEMBERS], from: u8, share: u32)
     requires { SumsFit sums.old }
     ensures { sums.new ≡ set sums.old from (get_or sums.old from 0 + share) }
 {
-    let at = from as usize;
+    let at = usize::from(from);
     if at < MAX_MEMBERS {
-        sums[at] = sums[at] + share as u64;
+        sums[at] += u64::from(share);
     }
 }
 
@@ -31,17 +32,12 @@ fn sum_shares(book: &[u8], sums: &mut [u64; MAX_MEMBERS])
     }
 }
 
-#[tactic(auto, using(numbers::proofs::Tested::turns), unfolding(crate::specs::BookGrounds::shares_out_too_high, crate::specs::Fields::scale_of))]
+#[tactic(auto, unfolding(crate::specs::BookGrounds::shares_out_too_high, crate::specs::Fields::scale_of))]
 pub(crate) fn shares_out_too_high(book: &[u8]) -> bool
     requires { members book.now ≤ max_members }
     ensures { result ≡ shares_out_too_high book.now }
 {
     let mut sums = [0u64; MAX_MEMBERS];
     sum_shares(book, &mut sums);
-    let count = member_count(book);
-    let mut found = false;
-    for i in 0..count {
-        found = found | (WHOLE_SHARE < sums[i as usize]);
-    }
-    found
+    some_below(member_count(book), |i| WHOLE_SHARE < sums[usize::from(i)])
 }

@@ -18,15 +18,15 @@ pub(crate) fn book_too_short(book: &[u8]) -> bool
 pub(crate) fn count_out_of_range(book: &[u8]) -> bool
     ensures { result ≡ count_out_of_range book.now }
 {
-    is_outside(1, MAX_MEMBERS as u64, member_count(book) as u64)
-        | (MAX_FEEDS < feed_count(book) as usize)
+    is_outside(1, MAX_MEMBERS as u64, u64::from(member_count(book)))
+        | (MAX_FEEDS < usize::from(feed_count(book)))
 }
 
 #[tactic(auto, unfolding(crate::specs::BookGrounds::book_length_wrong))]
 pub(crate) fn book_length_wrong(book: &[u8]) -> bool
     ensures { result ≡ book_length_wrong book.now }
 {
-    let members = MEMBER_LENGTH * member_count(book) as u32;
-    let feeds = FEED_LENGTH * feed_count(book) as u32;
+    let members = MEMBER_LENGTH * u32::from(member_count(book));
+    let feeds = FEED_LENGTH * u32::from(feed_count(book));
     book.len() != (HEADER_LENGTH + members + feeds) as usize
 }

@@ -1,38 +1,23 @@
 // Ground 15: walking the members in order, every feed comes up once. How often each does is kept in
 // one array, a byte for a feed: 0 is never, 1 is once, and from 2 on it does not matter how often.
-ghost use Rattle.std.specs.Prelude.{◌≡◌, ◌+◌, min, length};
-ghost use Rattle.book.specs.Fields.{members, feed_count, next, along};
+ghost use Rattle.std.specs.Prelude.{◌≡◌, length};
+ghost use Rattle.book.specs.Fields.{members, feeds_of};
 ghost use Rattle.book.specs.BookGrounds.{walk, feed_not_once};
 ghost use Rattle.book.specs.Private.Counted.{Counted};
 
 use super::super::counts::{feed_count, member_count};
-use super::super::fields::{first_feed, next_of};
+use super::super::feeds::feeds_of;
+use numbers::some_below;
 
-// A third time is no different from a second.
-fn one_more(times: u8) -> u8
-    ensures { result ≡ min (times + 1) 2 }
-{
-    if times == 0 {
-        return 1;
-    }
-    2
-}
-
-// Counts each feed of the chain from `first` on once more. A feed is a byte, so every one has its
-// place; a chain is cut where it must have repeated a feed.
-fn count_along(book: &[u8], first: u8, counts: &mut [u8])
+// Counts each feed of member i once more; a third time is no different from a second. A feed is a byte, so every one has
+// its place.
+fn count_along(book: &[u8], i: u16, counts: &mut [u8])
     requires { length counts.old ≡ 256 }
-    ensures { let bytes = book.now in
-        Counted counts.old (along (next bytes) (feed_count bytes + 1) first) counts.new }
+    ensures { Counted counts.old (feeds_of book.now i) counts.new }
 {
-    let mut j = first as u16;
-    let mut left = feed_count(book) + 1;
-    while 0 < j && 0 < left {
-        let at = j as usize;
-        let times = counts[at];
-        counts[at] = one_more(times);
-        j = next_of(book, j) as u16;
-        left -= 1;
+    for feed in feeds_of(book, i) {
+        let at = usize::from(feed);
+        counts[at] = counts[at].saturating_add(1).min(2);
     }
 }
 
@@ -43,20 +28,15 @@ fn count_walk(book: &[u8], counts: &mut [u8; 256])
 {
     let count = member_count(book);
     for i in 0..count {
-        count_along(book, first_feed(book, i), counts);
+        count_along(book, i, counts);
     }
 }
 
-#[tactic(auto, using(numbers::proofs::Tested::turns), unfolding(crate::specs::BookGrounds::feed_not_once))]
+#[tactic(auto, using(crate::proofs::Counted::once), unfolding(crate::specs::BookGrounds::feed_not_once))]
 pub(crate) fn feed_not_once(book: &[u8]) -> bool
     ensures { result ≡ feed_not_once book.now }
 {
     let mut counts = [0u8; 256];
     count_walk(book, &mut counts);
-    let count = feed_count(book);
-    let mut found = false;
-    for j in 0..count {
-        found = found | (counts[j as usize + 1] != 1);
-    }
-    found
+    some_below(feed_count(book), |j| counts[usize::from(j) + 1] != 1)
 }

@@ -10,48 +10,35 @@ use super::super::layout::{
     DIVISOR, FEED_ZERO_COUNT, FEED_ZEROS, HEADER_ZERO_COUNT, HEADER_ZEROS, MEMBER_ZERO_COUNT,
     MEMBER_ZEROS,
 };
-use numbers::{u8_at, u16_at};
+use numbers::{some_below, u8_at, u16_at};
 
 // One of the `count` bytes from `start` on isn't zero.
-#[tactic(auto, using(numbers::proofs::Tested::turns))]
-fn some_not_zero(book: &[u8], start: u32, count: u32) -> bool
+fn some_not_zero(book: &[u8], start: u32, count: u16) -> bool
     requires { start + count < 2 ^ 32 }
     ensures { result ≡ some_below count (λ k. not_zero book.now (start + k)) }
 {
-    let mut found = false;
-    for k in 0..count {
-        found = found | (u8_at(book, start + k) != 0);
-    }
-    found
+    some_below(count, |k| u8_at(book, start + u32::from(k)) != 0)
 }
 
 // One of the three zero bytes of some member isn't zero.
-#[tactic(auto, using(numbers::proofs::Tested::turns))]
 fn members_not_zero(book: &[u8]) -> bool
     ensures { let bytes = book.now in
         result ≡ some_below (members bytes) (λ i. some_below member_zero_count (λ k. not_zero bytes (member_zeros i + k))) }
 {
-    let count = member_count(book);
-    let mut found = false;
-    for i in 0..count {
-        found = found | some_not_zero(book, member_at(i) + MEMBER_ZEROS, MEMBER_ZERO_COUNT);
-    }
-    found
+    some_below(member_count(book), |i| {
+        some_not_zero(book, member_at(i) + MEMBER_ZEROS, MEMBER_ZERO_COUNT)
+    })
 }
 
 // One of the two zero bytes of some feed isn't zero.
-#[tactic(auto, using(numbers::proofs::Tested::turns))]
 fn feeds_not_zero(book: &[u8]) -> bool
     ensures { let bytes = book.now in
         result
         ≡ some_below (feed_count bytes) (λ j. some_below feed_zero_count (λ k. not_zero bytes (feed_zeros bytes (suc j) + k))) }
 {
-    let count = feed_count(book);
-    let mut found = false;
-    for j in 0..count {
-        found = found | some_not_zero(book, feed_at(book, j + 1) + FEED_ZEROS, FEED_ZERO_COUNT);
-    }
-    found
+    some_below(feed_count(book), |j| {
+        some_not_zero(book, feed_at(book, j + 1) + FEED_ZEROS, FEED_ZERO_COUNT)
+    })
 }
 
 #[tactic(auto, unfolding(crate::specs::BookGrounds::divisor_or_zeros_wrong))]

@@ -1,20 +1,24 @@
-use Rattle.std.proofs.Common.{arith}
-use Rattle.book.proofs.Placed.{onward, at_end, at_cut}
+use Rattle.std.proofs.Common.{arith, ◌≡◌, ◌∷◌, ◌-◌}
+use Rattle.book.specs.Limits.{max_feeds}
+use Rattle.book.specs.Fields.{next, first_feed}
+use Rattle.book.specs.Private.Feeds.{feeds_left}
+use Rattle.book.proofs.Along.{along_within}
+use Rattle.book.proofs.Placed.{extending_none, extending_more, extending_all}
 use Rattle.book.proofs.held.feeds_along.Goals as goal
 
-pub loop-j-preserved : goal.loop-j-preserved
-loop-j-preserved c =
-    record {
-      place = omega arith;
-      rest = λ more. c.loop-j.invariant.rest
-          (onward c.loop-j-test.true c.if-at-lt-MAX_FEEDS.true c.share_of.ensures c.from_of.ensures c.next_of-j.ensures
-          more);
-    }
+pub loop-feed-init : goal.loop-feed-init
+loop-feed-init c =
+    let book = c.args.book.now in
+    let within = along_within (next book) (max_feeds - c.args.start) (first_feed book c.args.i) in
+    rw (c.into_iter-feed-iterator.ensures.into_iter_gives, c.first_feeds-feed-items.ensures)
+    (extending_none (omega (arith, within)))
 
--- No place is left.
-pub returns-else-at-lt-MAX_FEEDS : goal.returns-else-at-lt-MAX_FEEDS
-returns-else-at-lt-MAX_FEEDS c = c.loop-j.invariant.rest (at_cut c.if-at-lt-MAX_FEEDS.false c.loop-j.invariant.place)
+pub loop-feed-preserved : goal.loop-feed-preserved
+loop-feed-preserved c =
+    let rest : feeds_left c.loop-feed.feed-iterator ≡ c.from-j.result ∷ feeds_left c.next.new.self =
+    rw c.from-j.ensures c.in-Some.ensures.steps
+    in
+    extending_more c.loop-feed.invariant rest c.share_of.ensures c.from_of.ensures
 
--- No feed is left.
-pub returns-after-loop-j : goal.returns-after-loop-j
-returns-after-loop-j c = c.loop-j.invariant.rest (at_end (omega arith) c.loop-j.invariant.place)
+pub returns : goal.returns
+returns c = extending_all c.loop-feed.invariant c.in-None.ensures.steps.0

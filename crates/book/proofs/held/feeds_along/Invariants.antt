@@ -1,11 +1,12 @@
 -- The loop meets the feeds in order, and each goes to the next place.
 use Rattle.std.proofs.Common.{◌-◌}
 use Rattle.book.specs.Limits.{max_feeds}
+use Rattle.book.specs.Fields.{next, first_feed, along}
+use Rattle.book.specs.Private.Feeds.{feeds_left}
 use Rattle.book.proofs.Placed.{Extending}
 use Rattle.book.proofs.held.feeds_along.Given as goal
 
-abbrev pub invariant-loop-j : goal.invariant-loop-j
-invariant-loop-j l = Extending l.book l.first l.start l.initial.shares l.initial.froms l.shares l.froms l.j l.at
-
-abbrev pub decreases-loop-j : goal.decreases-loop-j
-decreases-loop-j l = max_feeds - l.at
+abbrev pub invariant-loop-feed : goal.invariant-loop-feed
+invariant-loop-feed l =
+    let feeds = along (next l.book) (max_feeds - l.start) (first_feed l.book l.i) in
+    Extending l.book feeds l.start l.initial.shares l.initial.froms l.shares l.froms (feeds_left l.feed-iterator) l.at

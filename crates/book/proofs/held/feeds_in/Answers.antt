@@ -6,4 +6,4 @@ pub loop-i-init : goal.loop-i-init
 loop-i-init c = in_order_none (omega arith) c.requires.shares_value
 
 pub loop-i-preserved : goal.loop-i-preserved
-loop-i-preserved c = in_order_more c.loop-i.invariant c.loop-i-test.true c.first_feed.ensures c.feeds_along-at.ensures
+loop-i-preserved c = in_order_more c.loop-i.invariant c.loop-i-test.true c.feeds_along-at.ensures

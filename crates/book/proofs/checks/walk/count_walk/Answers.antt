@@ -9,4 +9,4 @@ loop-i-init c = none
 
 pub loop-i-preserved : goal.loop-i-preserved
 unfolding walk
-loop-i-preserved c = rw add-one (joined c.loop-i.invariant (rw c.first_feed.ensures at c.count_along.ensures))
+loop-i-preserved c = rw add-one (joined c.loop-i.invariant c.count_along.ensures)
