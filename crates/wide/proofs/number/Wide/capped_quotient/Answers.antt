@@ -2,16 +2,15 @@
 -- left is the largest.
 use Rattle.std.proofs.Common.{not, ap, sym, ◌∙◌, arith}
 use Rattle.numbers.proofs.Bisection.{begin, lower_half, upper_half}
-use Rattle.wide.specs.Value.{value}
 use Rattle.wide.proofs.Halving.{passes_rises, largest_found}
-use Rattle.wide.proofs.quotient.capped_quotient.Goals as goal
+use Rattle.wide.proofs.number.Wide.capped_quotient.Goals as goal
 
 pub loop-low-init : goal.loop-low-init
 loop-low-init c = begin _ _
 
 pub loop-low-preserved-then-multiple_at_most : goal.loop-low-preserved-then-multiple_at_most
 loop-low-preserved-then-multiple_at_most c =
-    let rises = passes_rises (value c.args.a) (value c.args.b) c.args.cap in
+    let rises = passes_rises c.args.self c.args.b c.args.cap in
     upper_half c.loop-low.invariant rises (omega arith)
     (ap not (sym c.multiple_at_most.ensures ∙ c.if-multiple_at_most.true))
 
@@ -20,4 +19,4 @@ loop-low-preserved c = lower_half c.loop-low.invariant (omega arith) (omega arit
     (ap not (sym c.multiple_at_most.ensures ∙ c.if-multiple_at_most.false))
 
 pub returns : goal.returns
-returns c = largest_found (value c.args.a) (value c.args.b) c.loop-low.invariant c.loop-low-test.false
+returns c = largest_found c.args.self c.args.b c.loop-low.invariant c.loop-low-test.false
