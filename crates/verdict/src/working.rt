@@ -66,7 +66,9 @@ pub fn working_levels(
     if at_zero == Wide::from(0) {
         return WorkingLevels::None;
     }
-    let equilibrium = at_rate.wrapping_mul(MILLION).capped_quotient(at_zero, MILLION) as u64;
+    let equilibrium = at_rate
+        .wrapping_mul(MILLION)
+        .capped_quotient(at_zero, MILLION) as u64;
     WorkingLevels::Levels {
         equilibrium,
         micro: TENTHS * concentration * equilibrium / (PER_PICOCURIE * divisor as u64),

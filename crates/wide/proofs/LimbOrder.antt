@@ -1,11 +1,10 @@
 -- The order of two numbers is that of their limbs, the highest first: where the numbers above a limb differ they decide,
 -- since the limb is worth less than one of them.
-use Rattle.std.proofs.Common.{Ordering, Less, Equal, Greater, ◌≡◌, ◌==◌, ℕ, ◌+◌, ◌*◌, ◌^◌, ◌<◌, List, get_or, refl, ap, subst, ◌∙◌, arith}
+use Rattle.std.proofs.Common.{Ordering, Less, Equal, Greater, ◌≡◌, ◌==◌, ℕ, ◌+◌, ◌*◌, ◌^◌, ◌<◌, List, get_or, refl, ap, sym, subst, ◌∙◌, arith}
 use Rattle.std.proofs.lemmas.Cmp.{ranked}
 use Rattle.std.specs.Cmp.{nat_cmp_is, unsigned_ties, unsigned_tied}
-use Rattle.std.specs.Cmp.Lexicographic.{pointwise, slice_cmp, slice_partial_cmp, lists_agrees, lists_ties}
-use Rattle.std.specs.Ordering.{nat_cmp, as_partial_cmp, ordering_then, is_eq}
-use Rattle.std.specs.Prelude.{Some}
+use Rattle.std.specs.Cmp.Lexicographic.{pointwise, slice_cmp, lists_ties}
+use Rattle.std.specs.Ordering.{nat_cmp, ordering_then, is_eq}
 use Rattle.wide.specs.Limbs.{SixLimbs, number, listed, listed_same}
 
 limb_below : (x y v w : ℕ) → x < 2 ^ 32 → y < 2 ^ 32 → (above here : Ordering) → above ≡ nat_cmp v w
@@ -29,6 +28,18 @@ limb_below x y v w hx hy Equal Greater e f =
     let lower : y < x = ranked x y Greater f in
     nat_cmp_is (x + 2 ^ 32 * v) (y + 2 ^ 32 * w) Greater (omega arith)
 
+-- Lists whose first elements differ are ordered by these, and lists whose first elements are equal by the rest.
+decided_by : (x y : ℕ) (rest found : Ordering) → found ≡ nat_cmp x y → (x ≡ y → ⊥) → ordering_then found rest ≡ found
+decided_by x y rest Less e n = refl
+decided_by x y rest Equal e n = absurd (n (ranked x y Equal e))
+decided_by x y rest Greater e n = refl
+
+pub decided : (x y : ℕ) (rest : Ordering) → (x ≡ y → ⊥) → ordering_then (nat_cmp x y) rest ≡ nat_cmp x y
+decided x y rest n = decided_by x y rest (nat_cmp x y) refl n
+
+pub undecided : (x y : ℕ) (rest : Ordering) → x ≡ y → ordering_then (nat_cmp x y) rest ≡ rest
+undecided x y rest e = ap (λ (found : Ordering). ordering_then found rest) (sym (nat_cmp_is x y Equal e))
+
 grouped : (a b c : Ordering) → ordering_then a (ordering_then b c) ≡ ordering_then (ordering_then a b) c
 grouped Less b c = refl
 grouped Equal b c = refl
@@ -42,7 +53,7 @@ last Greater = refl
 -- The limbs' answers one after another, and each after those of the limbs above it together.
 regrouped : (a b c d e f : Ordering)
     → ordering_then a
-        (ordering_then b (ordering_then c (ordering_then d (ordering_then e (ordering_then f Equal)))))
+    (ordering_then b (ordering_then c (ordering_then d (ordering_then e (ordering_then f Equal)))))
     ≡ ordering_then (ordering_then (ordering_then (ordering_then (ordering_then a b) c) d) e) f
 regrouped a b c d e f =
     rw last
@@ -69,9 +80,6 @@ module _ {a b : List ℕ} (s : SixLimbs a) (t : SixLimbs b) where
       subst (λ (l : List ℕ). slice_cmp nat_cmp l b ≡ nat_cmp (number l) (number b)) (listed_same a s.six)
       (subst (λ (l : List ℕ). slice_cmp nat_cmp (listed a) l ≡ nat_cmp (number (listed a)) (number l))
       (listed_same b t.six) listed_order)
-
-  pub partial_order_is : slice_partial_cmp (as_partial_cmp nat_cmp) a b ≡ Some (nat_cmp (number a) (number b))
-  partial_order_is = lists_agrees (λ x y. refl) a b ∙ ap Some order_is
 
   pub equality_is : pointwise ◌==◌ a b ≡ (number a == number b)
   equality_is = lists_ties nat_cmp unsigned_ties a b ∙ ap is_eq order_is ∙ unsigned_tied (number a) (number b)

@@ -28,7 +28,7 @@ impl PartialOrd for Wide {
     ghost laws = { partial_order_from_own_ties (Prim.search (comparing, rules)) (Prim.search (comparing, rules)) };
 
     fn partial_cmp(&self, other: &Wide) -> Option<Ordering> {
-        self.limbs.partial_cmp(&other.limbs)
+        Some(self.cmp(other))
     }
 }
 
@@ -42,6 +42,11 @@ impl Ord for Wide {
     ghost matches_eq = { Prim.search (comparing, rules) };
 
     fn cmp(&self, other: &Wide) -> Ordering {
-        self.limbs.cmp(&other.limbs)
+        for (x, y) in self.limbs.iter().zip(other.limbs.iter()) {
+            if x != y {
+                return x.cmp(y);
+            }
+        }
+        Ordering::Equal
     }
 }
