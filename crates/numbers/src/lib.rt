@@ -2,5 +2,7 @@
 #![tactic(auto)]
 
 mod bytes;
+mod search;
 
 pub use bytes::{u8_at, u16_at, u32_at, u64_at};
+pub use search::first_where;

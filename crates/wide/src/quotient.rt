@@ -3,23 +3,14 @@ ghost use Rattle.std.specs.Prelude.{◌≡◌, ◌*◌, nat_le};
 ghost use Rattle.wide.specs.Quotient.{LargestQuotient};
 
 use crate::number::Wide;
+use numbers::first_where;
 
 impl Wide {
     // The largest q from 0 to cap with q times b at most the number: cap where b is 0.
     pub fn capped_quotient(self, b: Wide, cap: u32) -> u32
         ensures { LargestQuotient self b cap result }
     {
-        let mut low: u32 = 0;
-        let mut high = cap;
-        while low < high {
-            let middle = low + (high - low) / 2;
-            if b.multiple_at_most(middle + 1, self) {
-                low = middle + 1;
-            } else {
-                high = middle;
-            }
-        }
-        low
+        first_where(cap, |q| !b.multiple_at_most(q + 1, self))
     }
 
     // Whether k times the number is at most a, also where the product passes 2^192.
