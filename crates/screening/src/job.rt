@@ -9,7 +9,7 @@ pub struct Figures {
     pub concentration: u64,
     pub verdict: Verdict,
     pub level: u32,
-    pub working: WorkingLevels,
+    pub working: Option<WorkingLevels>,
 }
 
 #[derive(Clone, Copy)]

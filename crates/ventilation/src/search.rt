@@ -6,23 +6,13 @@ ghost use Rattle.book.specs.Rates.{max_rate};
 ghost use Rattle.numbers.specs.Bisection.{Between};
 ghost use Rattle.screening.specs.Screenable.{Screenable};
 ghost use Rattle.verdict.specs.HeldNumbers.{number_in};
-ghost use Rattle.ventilation.specs.Lowest.{says_below, first_rate};
+ghost use Rattle.ventilation.specs.Lowest.{first_rate};
 ghost use Rattle.ventilation.specs.Private.BelowAt.{below_at};
 
 use crate::answer::LowestRate;
 use book::{COEFFICIENTS, HeldChain, MAX_MEMBERS, MAX_RATE, read_book};
 use numbers::first_where;
 use screening::{Criterion, ScreeningInput, Verdict, verdict_at};
-
-fn is_below(verdict: Verdict) -> bool
-    ensures { result ≡ says_below verdict }
-{
-    match verdict {
-        Verdict::Below => true,
-        Verdict::Close => false,
-        Verdict::Above => false,
-    }
-}
 
 // At how many rates the verdict is not 'below'. They come before those at which it is, since at a higher rate no
 // verdict is worse, and so a search by halves finds the first of these.
@@ -38,7 +28,7 @@ fn failing_rates(
     ensures { Between (below_at by book.now (number_in coefficients.now) concentration) (suc max_rate) result result }
 {
     first_where(MAX_RATE + 1, |rate| {
-        is_below(verdict_at(by, rate, concentration, book, chain, coefficients))
+        verdict_at(by, rate, concentration, book, chain, coefficients) == Verdict::Below
     })
 }
 

@@ -37,7 +37,7 @@ pub struct Criterion {
 }
 
 // From best to worst.
-#[derive(Clone, Copy)]
+#[derive(Clone, Copy, PartialEq, Eq, PartialOrd, Ord)]
 pub enum Verdict {
     Below,
     Close,

@@ -17,11 +17,7 @@ fn raised(factor: u64, allowance: u64) -> u64
     requires { allowance ≤ G }
     ensures { result ≡ min (factor + allowance) G }
 {
-    if factor <= GRAINS - allowance {
-        factor + allowance
-    } else {
-        GRAINS
-    }
+    factor.saturating_add(allowance).min(GRAINS)
 }
 
 // A factor times its member's weight.

@@ -18,12 +18,11 @@ const PER_PICOCURIE: u64 = 37_000;
 
 const TENTHS: u64 = 10;
 
+// Fm in millionths, and micro working levels.
 #[derive(Clone, Copy)]
-pub enum WorkingLevels {
-    // No member but the gas has an alpha energy weight and a factor.
-    None,
-    // Fm in millionths, and micro working levels.
-    Levels { equilibrium: u64, micro: u64 },
+pub struct WorkingLevels {
+    pub equilibrium: u64,
+    pub micro: u64,
 }
 
 // The sum of alpha energy weight times factor over every member but the gas.
@@ -52,25 +51,25 @@ fn alpha_term(factor: u64, weight: u32) -> Wide
     Wide::from(factor).wrapping_mul(weight)
 }
 
-// From the alpha sums at the rate and at rate 0. The first is no more than the second, so the quotient is at most one
-// whole.
+// From the alpha sums at the rate and at rate 0: none where no member but the gas has an alpha energy weight and a
+// factor. The first is no more than the second, so the quotient is at most one whole.
 pub fn working_levels(
     at_rate: Wide,
     at_zero: Wide,
     concentration: u64,
     divisor: u16,
-) -> WorkingLevels
+) -> Option<WorkingLevels>
     requires { WorkingInRange at_rate at_zero concentration divisor }
     ensures { result ≡ working_levels at_rate at_zero concentration divisor }
 {
     if at_zero == Wide::from(0) {
-        return WorkingLevels::None;
+        return None;
     }
     let equilibrium = at_rate
         .wrapping_mul(MILLION)
         .capped_quotient(at_zero, MILLION) as u64;
-    WorkingLevels::Levels {
+    Some(WorkingLevels {
         equilibrium,
         micro: TENTHS * concentration * equilibrium / (PER_PICOCURIE * divisor as u64),
-    }
+    })
 }
