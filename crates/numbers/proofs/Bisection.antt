@@ -8,10 +8,7 @@ use mathlib.Core.Path.{◌≡◌, refl, sym, ◌∙◌}
 use mathlib.Core.Bool.{Bool, true, false, true≢false}
 use Rattle.std.proofs.Common.{leb}
 use Rattle.std.proofs.lemmas.Bool.{leb-true, leb-false}
-use Rattle.numbers.specs.Bisection.{Between}
-
-pub record Rises (test : ℕ → Bool) (count : ℕ) : Type 0 where
-  pub stays : (k l : ℕ) → k ≤ l → l < count → test k ≡ true → test l ≡ true
+use Rattle.numbers.specs.Bisection.{Between, Rises}
 
 pub begin : (test : ℕ → Bool) (count : ℕ) → Between test count 0 count
 begin test count =

@@ -2,7 +2,9 @@
 #![tactic(auto)]
 
 mod bytes;
+mod search;
 mod tests;
 
 pub use bytes::{u8_at, u16_at, u32_at, u64_at};
+pub use search::first_where;
 pub use tests::some_below;

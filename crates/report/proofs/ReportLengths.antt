@@ -5,6 +5,7 @@ use native.Mathlib.Omega.{arith}
 use mathlib.Core.Path.{◌≡◌, refl}
 use mathlib.Core.List.{List}
 use lib.ListN.{length, length-append, length-take, take, get_or}
+use Rattle.std.specs.Prelude.{Option, None, Some}
 use Rattle.book.specs.Limits.{max_members}
 use Rattle.text.specs.Words.{decimal}
 use Rattle.text.proofs.Digits.{decimal_at_most}
@@ -57,10 +58,10 @@ lines_within factors i = omega (arith, factor_lines_at_most (take i factors), le
 -- What the measuring of the factors' lines reads.
 pub ruleset measuring = (lines_more, lines_within)
 
-working_at_most : (working : WorkingLevels) → length (working_lines working) ≤ working_room
-working_at_most WorkingLevels.None = omega arith
-working_at_most (WorkingLevels.Levels Fm micro) =
-    simp length-append (omega (arith, decimal_at_most Fm, decimal_at_most micro))
+working_at_most : (working : Option WorkingLevels) → length (working_lines working) ≤ working_room
+working_at_most None = omega arith
+working_at_most (Some levels) =
+    simp length-append (omega (arith, decimal_at_most levels.equilibrium, decimal_at_most levels.micro))
 
 figures_at_most : (figures : Figures) → length (figure_lines figures) ≤ figures_room
 figures_at_most figures =

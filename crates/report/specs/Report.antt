@@ -1,5 +1,5 @@
 -- The text that `screen` writes.
-use Rattle.std.specs.Prelude.{ℕ, ◌+◌, ◌*◌, List, ◌++◌, length, take, Result, Ok, Err}
+use Rattle.std.specs.Prelude.{ℕ, ◌+◌, ◌*◌, List, ◌++◌, length, take, Option, None, Some, Result, Ok, Err}
 use Prim.Native.String.{String}
 use Rattle.book.specs.Limits.{max_members}
 use Rattle.text.specs.Words.{ascii, most_digits, decimal, line_feed, line, each}
@@ -29,9 +29,9 @@ unfoldable pub verdict_line : Verdict → List ℕ
 verdict_line verdict = ascii "verdict " ++ ascii (verdict_word verdict) ++ line_feed
 
 -- Fm, then micro working levels.
-abbrev pub working_lines : WorkingLevels → List ℕ
-working_lines WorkingLevels.None = ascii "equilibrium none" ++ line_feed ++ ascii "working none" ++ line_feed
-working_lines (WorkingLevels.Levels Fm micro) = line "equilibrium " Fm ++ line "working " micro
+abbrev pub working_lines : Option WorkingLevels → List ℕ
+working_lines None = ascii "equilibrium none" ++ line_feed ++ ascii "working none" ++ line_feed
+working_lines (Some levels) = line "equilibrium " levels.equilibrium ++ line "working " levels.micro
 
 abbrev pub figure_lines : Figures → List ℕ
 figure_lines figures =

@@ -53,13 +53,13 @@ pub(crate) fn figures_length(figures: Figures) -> usize
     FIGURE_WORDS + concentration + level + working_length(working)
 }
 
-fn working_length(working: WorkingLevels) -> usize
+fn working_length(working: Option<WorkingLevels>) -> usize
     ensures measured { result ≡ length (working_lines working) }
     ensures within { result ≤ working_room }
 {
     match working {
-        WorkingLevels::None => NO_WORKING_LEVELS,
-        WorkingLevels::Levels { equilibrium, micro } => {
+        None => NO_WORKING_LEVELS,
+        Some(WorkingLevels { equilibrium, micro }) => {
             WORKING_WORDS + decimal_length(equilibrium) + decimal_length(micro)
         }
     }

@@ -53,13 +53,13 @@ fn put_verdict(out: &mut [u8], at: usize, verdict: Verdict) -> usize
     }
 }
 
-fn put_working(out: &mut [u8], at: usize, working: WorkingLevels) -> usize
+fn put_working(out: &mut [u8], at: usize, working: Option<WorkingLevels>) -> usize
     requires { at + length (working_lines working) ≤ length out.old }
     ensures { Put out.old at (working_lines working) out.new result }
 {
     match working {
-        WorkingLevels::None => put(out, at, b"equilibrium none\nworking none\n"),
-        WorkingLevels::Levels { equilibrium, micro } => {
+        None => put(out, at, b"equilibrium none\nworking none\n"),
+        Some(WorkingLevels { equilibrium, micro }) => {
             let factor = put_line(out, at, b"equilibrium ", equilibrium);
             put_line(out, factor, b"working ", micro)
         }

@@ -8,7 +8,7 @@ pub struct Figures {
     pub concentration: u64,
     pub verdict: Verdict,
     pub level: u32,
-    pub working: WorkingLevels,
+    pub working: Option<WorkingLevels>,
 }
 
 // The answer to a job that is accepted. The factors stand in the first `count` places.

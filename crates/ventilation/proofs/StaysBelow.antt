@@ -13,8 +13,8 @@ use Rattle.book.specs.BookGrounds.{Accepted}
 use Rattle.book.specs.Held.{held_book}
 use Rattle.book.specs.declared.held.HeldBook.{HeldBook}
 use Rattle.book.specs.Rates.{max_rate}
-use Rattle.numbers.specs.Bisection.{Between}
-use Rattle.numbers.proofs.Bisection.{Rises, found}
+use Rattle.numbers.specs.Bisection.{Between, Rises}
+use Rattle.numbers.proofs.Bisection.{found}
 use Rattle.screening.specs.Job.{book_of}
 use Rattle.screening.specs.JobGrounds.{checked_job}
 use Rattle.verdict.specs.Verdict.{verdict_at, verdict_order}

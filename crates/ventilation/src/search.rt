@@ -6,24 +6,15 @@ ghost use Rattle.book.specs.Rates.{max_rate};
 ghost use Rattle.numbers.specs.Bisection.{Between};
 ghost use Rattle.screening.specs.Screenable.{Screenable};
 ghost use Rattle.verdict.specs.HeldNumbers.{number_in};
-ghost use Rattle.ventilation.specs.Lowest.{says_below, first_rate};
+ghost use Rattle.ventilation.specs.Lowest.{first_rate};
 ghost use Rattle.ventilation.specs.Private.BelowAt.{below_at};
 
 use book::{COEFFICIENTS, HeldChain, MAX_MEMBERS, MAX_RATE, read_book};
+use numbers::first_where;
 use screening::{Criterion, ScreeningInput, Verdict, verdict_at};
 
-fn is_below(verdict: Verdict) -> bool
-    ensures { result ≡ says_below verdict }
-{
-    match verdict {
-        Verdict::Below => true,
-        Verdict::Close => false,
-        Verdict::Above => false,
-    }
-}
-
 // At how many rates the verdict is not 'below'. They come before those at which it is, since at a higher rate no
-// verdict is worse, and so each turn halves the span in which the first of these lies.
+// verdict is worse, and so a search by halves finds the first of these.
 fn failing_rates(
     by: Criterion,
     concentration: u64,
@@ -35,18 +26,9 @@ fn failing_rates(
     requires chain_value { chain.now ≡ held_chain book.now }
     ensures { Between (below_at by book.now (number_in coefficients.now) concentration) (suc max_rate) result result }
 {
-    let mut low: u32 = 0;
-    let mut high = MAX_RATE + 1;
-    while low < high {
-        let middle = low + (high - low) / 2;
-        let verdict = verdict_at(by, middle, concentration, book, chain, coefficients);
-        if is_below(verdict) {
-            high = middle;
-        } else {
-            low = middle + 1;
-        }
-    }
-    low
+    first_where(MAX_RATE + 1, |rate| {
+        verdict_at(by, rate, concentration, book, chain, coefficients) == Verdict::Below
+    })
 }
 
 // The lowest rate for a room whose book is checked. The book is read once, and its arrays are lent.

@@ -1,5 +1,5 @@
 -- The equilibrium factor and the working levels (document 01, "Working levels").
-use Rattle.std.specs.Prelude.{ℕ, suc, ◌*◌, ◌-◌, ◌/◌, cond, eqb}
+use Rattle.std.specs.Prelude.{ℕ, suc, ◌*◌, ◌-◌, ◌/◌, cond, eqb, Option, None, Some}
 use Rattle.numbers.specs.Sums.{sum_below}
 use Rattle.verdict.specs.declared.working.WorkingLevels.{WorkingLevels}
 
@@ -20,7 +20,10 @@ abbrev pub micro_levels : ℕ → ℕ → ℕ → ℕ
 micro_levels C Fm W = 10 * C * Fm / (37000 * W)
 
 -- If the divisor is 0 there is none, and no working level.
-unfoldable pub working_levels : ℕ → ℕ → ℕ → ℕ → WorkingLevels
+unfoldable pub working_levels : ℕ → ℕ → ℕ → ℕ → Option WorkingLevels
 working_levels at_rate at_zero C W =
-    cond (eqb at_zero 0) WorkingLevels.None
-    (WorkingLevels.Levels (equilibrium at_rate at_zero) (micro_levels C (equilibrium at_rate at_zero) W))
+    cond (eqb at_zero 0) None
+    (Some (record {
+      equilibrium = equilibrium at_rate at_zero;
+      micro = micro_levels C (equilibrium at_rate at_zero) W;
+    }))

@@ -1,6 +1,5 @@
 // The verdict on risk or yearly dose, and the screening level.
 ghost use Rattle.std.specs.Prelude.{◌≡◌, ◌+◌, ◌*◌, ◌≤◌};
-ghost use Rattle.wide.specs.Value.{value};
 ghost use Rattle.balance.specs.Balance.{G};
 ghost use Rattle.verdict.specs.Verdict.{verdict_of, inhalation, submersion, bound_of, capped_quotient};
 ghost use Rattle.verdict.specs.Verdict.{max_target, max_level};
@@ -9,7 +8,7 @@ ghost use Rattle.verdict.specs.HeldNumbers.{assessment_in, judged_on, Summable, 
 use crate::weighted::weighted_sum;
 use book::{COEFFICIENTS, MAX_MEMBERS};
 use exposure::{HUNDREDTHS, Kind};
-use wide::{at_most, capped_quotient, from_u64, multiple};
+use wide::Wide;
 
 // In mBq/m³.
 const MAX_LEVEL: u32 = 4_000_000_000;
@@ -38,7 +37,7 @@ pub struct Criterion {
 }
 
 // From best to worst.
-#[derive(Clone, Copy)]
+#[derive(Clone, Copy, PartialEq, Eq, PartialOrd, Ord)]
 pub enum Verdict {
     Below,
     Close,
@@ -48,9 +47,9 @@ pub enum Verdict {
 // What a verdict and a level are reached on: Low and High at one mBq/m³, and B.
 #[derive(Clone, Copy)]
 pub struct Sums {
-    pub low: [u32; 6],
-    pub high: [u32; 6],
-    pub bound: [u32; 6],
+    pub low: Wide,
+    pub high: Wide,
+    pub bound: Wide,
 }
 
 #[derive(Clone, Copy)]
@@ -70,9 +69,9 @@ pub(crate) fn first_place(kind: Kind) -> usize
 }
 
 // B.
-fn bound_of(by: Criterion) -> [u32; 6]
+fn bound_of(by: Criterion) -> Wide
     requires { by.target ≤ max_target }
-    ensures { value result ≡ bound_of by }
+    ensures { result ≡ bound_of by }
 {
     let kind = by.kind;
     let target = by.target as u64;
@@ -89,22 +88,22 @@ fn bound_of(by: Criterion) -> [u32; 6]
 }
 
 // The amount times the scale times 2^40, the grains of the parent.
-fn in_grains(amount: u64, scale: u32) -> [u32; 6]
-    ensures { value result ≡ amount * scale * G }
+fn in_grains(amount: u64, scale: u32) -> Wide
+    ensures { result ≡ amount * scale * G }
 {
-    multiple(
-        multiple(multiple(from_u64(amount), scale), ROOT_OF_GRAINS),
-        ROOT_OF_GRAINS,
-    )
+    Wide::from(amount)
+        .wrapping_mul(scale)
+        .wrapping_mul(ROOT_OF_GRAINS)
+        .wrapping_mul(ROOT_OF_GRAINS)
 }
 
 // 'Below' where High is at most B, 'above' where Low is more, otherwise 'close'.
-fn verdict_of(low: [u32; 6], high: [u32; 6], bound: [u32; 6]) -> Verdict
-    ensures { result ≡ verdict_of (value low) (value high) (value bound) }
+fn verdict_of(low: Wide, high: Wide, bound: Wide) -> Verdict
+    ensures { result ≡ verdict_of low high bound }
 {
-    if at_most(high, bound) {
+    if high <= bound {
         Verdict::Below
-    } else if at_most(low, bound) {
+    } else if low <= bound {
         Verdict::Close
     } else {
         Verdict::Above
@@ -112,10 +111,10 @@ fn verdict_of(low: [u32; 6], high: [u32; 6], bound: [u32; 6]) -> Verdict
 }
 
 // The largest concentration up to the cap for which High is at most B.
-fn level_of(bound: [u32; 6], high_at_one: [u32; 6]) -> u32
-    ensures { result ≡ capped_quotient max_level (value bound) (value high_at_one) }
+fn level_of(bound: Wide, high_at_one: Wide) -> u32
+    ensures { result ≡ capped_quotient max_level bound high_at_one }
 {
-    capped_quotient(bound, high_at_one, MAX_LEVEL)
+    bound.capped_quotient(high_at_one, MAX_LEVEL)
 }
 
 // Low and High at one mBq/m³, and B, from the members' numbers and factors.
@@ -127,7 +126,7 @@ pub fn sums_of(
 ) -> Sums
     requires { Summable by count factors.now }
     ensures { SumsOf (assessment_in by count coefficients.now factors.now)
-        (value result.low) (value result.high) (value result.bound) }
+        result.low result.high result.bound }
 {
     let low = weighted_sum(by, count, coefficients, factors, 0);
     let high = weighted_sum(by, count, coefficients, factors, 2);
@@ -137,14 +136,14 @@ pub fn sums_of(
 
 // The verdict at a concentration.
 pub fn verdict_by(sums: Sums, concentration: u64) -> Verdict
-    requires { Comparable (value sums.low) (value sums.high) concentration }
-    ensures { result ≡ verdict_of (concentration * value sums.low) (concentration * value sums.high) (value sums.bound) }
+    requires { Comparable sums.low sums.high concentration }
+    ensures { result ≡ verdict_of (concentration * sums.low) (concentration * sums.high) sums.bound }
 {
     let low = sums.low;
     let high = sums.high;
     let bound = sums.bound;
     let times = concentration as u32;
-    verdict_of(multiple(low, times), multiple(high, times), bound)
+    verdict_of(low.wrapping_mul(times), high.wrapping_mul(times), bound)
 }
 
 // The verdict at a concentration and the level, from the members' numbers and factors.

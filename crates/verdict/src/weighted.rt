@@ -2,14 +2,13 @@
 ghost use Rattle.std.specs.Prelude.{◌≡◌, ◌+◌, ◌*◌, ◌^◌, ◌≤◌, min};
 ghost use Rattle.book.specs.Limits.{max_members};
 ghost use Rattle.balance.specs.Balance.{G};
-ghost use Rattle.wide.specs.Value.{value};
 ghost use Rattle.numbers.specs.Sums.{sum_below};
 ghost use Rattle.verdict.specs.HeldNumbers.{term_in};
 
 use crate::verdict::{Criterion, first_place};
 use balance::GRAINS;
 use book::{COEFFICIENTS, MAX_MEMBERS};
-use wide::{from_u64, multiple, sum};
+use wide::Wide;
 
 const DAYS_PER_YEAR: u32 = 365;
 
@@ -18,25 +17,22 @@ fn raised(factor: u64, allowance: u64) -> u64
     requires { allowance ≤ G }
     ensures { result ≡ min (factor + allowance) G }
 {
-    if factor <= GRAINS - allowance {
-        factor + allowance
-    } else {
-        GRAINS
-    }
+    factor.saturating_add(allowance).min(GRAINS)
 }
 
 // A factor times its member's weight.
-fn weighted(factor: u64, inhalation: u32, submersion: u32, x: u32, y: u32) -> [u32; 6]
+fn weighted(factor: u64, inhalation: u32, submersion: u32, x: u32, y: u32) -> Wide
     requires { factor ≤ G }
-    ensures exact { value result ≡ (365 * x * inhalation + y * submersion) * factor }
-    ensures small { value result ≤ 2 ^ 113 }
+    ensures exact { result ≡ (365 * x * inhalation + y * submersion) * factor }
+    ensures small { result ≤ 2 ^ 113 }
 {
-    let breathed = multiple(
-        multiple(multiple(from_u64(factor), inhalation), x),
-        DAYS_PER_YEAR,
-    );
-    let immersed = multiple(multiple(from_u64(factor), submersion), y);
-    sum(breathed, immersed)
+    let factor = Wide::from(factor);
+    let breathed = factor
+        .wrapping_mul(inhalation)
+        .wrapping_mul(x)
+        .wrapping_mul(DAYS_PER_YEAR);
+    let immersed = factor.wrapping_mul(submersion).wrapping_mul(y);
+    breathed.wrapping_add(immersed)
 }
 
 // Low at one mBq/m³ with margin 0, High with margin 2.
@@ -46,21 +42,21 @@ pub(crate) fn weighted_sum(
     coefficients: &[u32; COEFFICIENTS * MAX_MEMBERS],
     factors: &[u64; MAX_MEMBERS],
     margin: u64,
-) -> [u32; 6]
+) -> Wide
     requires { (count ≤ max_members) × (margin ≤ 2) }
-    ensures exact { value result ≡ sum_below count (term_in by coefficients.now factors.now margin) }
-    ensures small { value result ≤ 2 ^ 117 }
+    ensures exact { result ≡ sum_below count (term_in by coefficients.now factors.now margin) }
+    ensures small { result ≤ 2 ^ 117 }
 {
     let kind = by.kind;
     let x = by.x;
     let y = by.y;
     let first = first_place(kind);
-    let mut total = from_u64(0);
+    let mut total = Wide::from(0);
     for i in 0..count {
         let at = COEFFICIENTS * i + first;
         let factor = raised(factors[i], margin * i as u64);
         let term = weighted(factor, coefficients[at], coefficients[at + 1], x, y);
-        let next = sum(total, term);
+        let next = total.wrapping_add(term);
         total = next;
     }
     total

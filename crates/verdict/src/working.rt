@@ -1,12 +1,11 @@
 // The equilibrium factor and the working levels.
 ghost use Rattle.std.specs.Prelude.{◌≡◌, ◌*◌, ◌^◌, ◌≤◌, get_or};
 ghost use Rattle.book.specs.Limits.{max_members};
-ghost use Rattle.wide.specs.Value.{value};
 ghost use Rattle.verdict.specs.WorkingLevels.{alpha_sum, working_levels};
 ghost use Rattle.verdict.specs.HeldNumbers.{number_in, WorkingInRange};
 
 use book::{COEFFICIENTS, MAX_MEMBERS};
-use wide::{at_most, capped_quotient, from_u64, multiple, sum};
+use wide::Wide;
 
 // One whole, in millionths.
 const MILLION: u32 = 1_000_000;
@@ -19,12 +18,11 @@ const PER_PICOCURIE: u64 = 37_000;
 
 const TENTHS: u64 = 10;
 
+// Fm in millionths, and micro working levels.
 #[derive(Clone, Copy)]
-pub enum WorkingLevels {
-    // No member but the gas has an alpha energy weight and a factor.
-    None,
-    // Fm in millionths, and micro working levels.
-    Levels { equilibrium: u64, micro: u64 },
+pub struct WorkingLevels {
+    pub equilibrium: u64,
+    pub micro: u64,
 }
 
 // The sum of alpha energy weight times factor over every member but the gas.
@@ -32,44 +30,46 @@ pub fn alpha_sum(
     count: usize,
     coefficients: &[u32; COEFFICIENTS * MAX_MEMBERS],
     factors: &[u64; MAX_MEMBERS],
-) -> [u32; 6]
+) -> Wide
     requires { (1 ≤ count) × (count ≤ max_members) }
-    ensures exact { value result ≡ alpha_sum count (number_in coefficients.now) (λ i. get_or factors.now i 0) }
-    ensures small { value result ≤ 2 ^ 117 }
+    ensures exact { result ≡ alpha_sum count (number_in coefficients.now) (λ i. get_or factors.now i 0) }
+    ensures small { result ≤ 2 ^ 117 }
 {
-    let mut total = from_u64(0);
+    let mut total = Wide::from(0);
     for i in 1..count {
         let term = alpha_term(factors[i], coefficients[COEFFICIENTS * i + ALPHA]);
-        let next = sum(total, term);
+        let next = total.wrapping_add(term);
         total = next;
     }
     total
 }
 
-fn alpha_term(factor: u64, weight: u32) -> [u32; 6]
-    ensures exact { value result ≡ weight * factor }
-    ensures small { value result ≤ 2 ^ 113 }
+fn alpha_term(factor: u64, weight: u32) -> Wide
+    ensures exact { result ≡ weight * factor }
+    ensures small { result ≤ 2 ^ 113 }
 {
-    multiple(from_u64(factor), weight)
+    Wide::from(factor).wrapping_mul(weight)
 }
 
-// From the alpha sums at the rate and at rate 0. The first is no more than the second, so the quotient is at most one
-// whole.
+// From the alpha sums at the rate and at rate 0: none where no member but the gas has an alpha energy weight and a
+// factor. The first is no more than the second, so the quotient is at most one whole.
 pub fn working_levels(
-    at_rate: [u32; 6],
-    at_zero: [u32; 6],
+    at_rate: Wide,
+    at_zero: Wide,
     concentration: u64,
     divisor: u16,
-) -> WorkingLevels
-    requires { WorkingInRange (value at_rate) (value at_zero) concentration divisor }
-    ensures { result ≡ working_levels (value at_rate) (value at_zero) concentration divisor }
+) -> Option<WorkingLevels>
+    requires { WorkingInRange at_rate at_zero concentration divisor }
+    ensures { result ≡ working_levels at_rate at_zero concentration divisor }
 {
-    if at_most(at_zero, from_u64(0)) {
-        return WorkingLevels::None;
+    if at_zero == Wide::from(0) {
+        return None;
     }
-    let equilibrium = capped_quotient(multiple(at_rate, MILLION), at_zero, MILLION) as u64;
-    WorkingLevels::Levels {
+    let equilibrium = at_rate
+        .wrapping_mul(MILLION)
+        .capped_quotient(at_zero, MILLION) as u64;
+    Some(WorkingLevels {
         equilibrium,
         micro: TENTHS * concentration * equilibrium / (PER_PICOCURIE * divisor as u64),
-    }
+    })
 }

@@ -3,8 +3,8 @@
 use Rattle.std.proofs.Common.{ℕ, zero, suc, ◌+◌, ◌*◌, ◌≤◌, Bool, not, leb, ap, sym, ◌∙◌, mul-le-mul_right, arith}
 use Rattle.std.proofs.lemmas.Bool.{not-true, not-false, leb-true, leb-false, le-leb, lt-leb}
 use native.Mathlib.Numerals.{add-one}
-use Rattle.numbers.specs.Bisection.{Between}
-use Rattle.numbers.proofs.Bisection.{Rises, found}
+use Rattle.numbers.specs.Bisection.{Between, Rises}
+use Rattle.numbers.proofs.Bisection.{found}
 use Rattle.wide.specs.Quotient.{LargestQuotient}
 
 -- Whether the factor after k times b passes a.

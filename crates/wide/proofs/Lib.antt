@@ -6,7 +6,7 @@ pub mod LargestFactor
 mod Guess
 mod Halves
 mod Halving
-mod HighestLimb
+mod LimbOrder
 mod HighWord
 mod Limbs
 mod LongDivision

@@ -1,8 +1,8 @@
 -- The value of a list of limbs is linear: a list of sums has the sum of the values, and a list of multiples the
 -- multiple. An array of six is the list of its six elements, so both hold of arrays that are read element by element.
-use Rattle.std.proofs.Common.{◌≡◌, ℕ, suc, ◌+◌, ◌*◌, ◌^◌, ◌<◌, List, [], ◌∷◌, length, get_or, drop, sym, refl, ap, ◌∙◌, ap₂, arith, drop-cons}
-use lib.Seq.{drop-length}
+use Rattle.std.proofs.Common.{◌≡◌, ℕ, ◌+◌, ◌*◌, ◌^◌, List, [], ◌∷◌, length, get_or, reverse, sym, refl, ap, ◌∙◌, ap₂, arith}
 use Rattle.wide.specs.Value.{value}
+use Rattle.wide.specs.Limbs.{number, listed, listed_same}
 
 abbrev pub sums : List ℕ → List ℕ → List ℕ
 sums [] [] = []
@@ -30,37 +30,21 @@ pub value_multiples : (k : ℕ) (xs : List ℕ) → value (multiples k xs) ≡ v
 value_multiples k [] = omega arith
 value_multiples k (x ∷ xs) = multiples_step k x (value xs) (value (multiples k xs)) (value_multiples k xs)
 
--- the elements of an array of six
-abbrev pub listed : List ℕ → List ℕ
-listed a = get_or a 0 0 ∷ get_or a 1 0 ∷ get_or a 2 0 ∷ get_or a 3 0 ∷ get_or a 4 0 ∷ get_or a 5 0 ∷ []
-
-listed_from : (a : List ℕ) (i : ℕ) (rest : List ℕ) → i < length a → rest ≡ drop (suc i) a
-    → get_or a i 0 ∷ rest ≡ drop i a
-listed_from a i rest h e = ap (λ (l : List ℕ). get_or a i 0 ∷ l) e ∙ sym (drop-cons a i 0 h)
-
-pub listed_same : (a : List ℕ) → length a ≡ 6 → listed a ≡ a
-listed_same a h =
-    listed_from a 0 _ (omega arith)
-    (listed_from a 1 _ (omega arith)
-    (listed_from a 2 _ (omega arith)
-    (listed_from a 3 _ (omega arith)
-    (listed_from a 4 _ (omega arith) (listed_from a 5 _ (omega arith) (sym (rw h at (drop-length a))))))))
-
 -- columns of sums are worth the sum, whatever they are settled to
 pub sum_columns : (a b : List ℕ) {s0 s1 s2 s3 s4 s5 total : ℕ} → length a ≡ 6 → length b ≡ 6
-    → s0 ≡ get_or a 0 0 + get_or b 0 0 → s1 ≡ get_or a 1 0 + get_or b 1 0 → s2 ≡ get_or a 2 0 + get_or b 2 0
-    → s3 ≡ get_or a 3 0 + get_or b 3 0 → s4 ≡ get_or a 4 0 + get_or b 4 0 → s5 ≡ get_or a 5 0 + get_or b 5 0
-    → value (s0 ∷ s1 ∷ s2 ∷ s3 ∷ s4 ∷ s5 ∷ []) ≡ total → value a + value b ≡ total
+    → s0 ≡ get_or a 5 0 + get_or b 5 0 → s1 ≡ get_or a 4 0 + get_or b 4 0 → s2 ≡ get_or a 3 0 + get_or b 3 0
+    → s3 ≡ get_or a 2 0 + get_or b 2 0 → s4 ≡ get_or a 1 0 + get_or b 1 0 → s5 ≡ get_or a 0 0 + get_or b 0 0
+    → value (s0 ∷ s1 ∷ s2 ∷ s3 ∷ s4 ∷ s5 ∷ []) ≡ total → number a + number b ≡ total
 sum_columns a b ha hb e0 e1 e2 e3 e4 e5 f =
-    sym (value_sums (listed a) (listed b)
-    ∙ ap₂ (λ (x y : List ℕ). value x + value y) (listed_same a ha) (listed_same b hb))
+    sym (value_sums (reverse (listed a)) (reverse (listed b))
+    ∙ ap₂ (λ (x y : List ℕ). number x + number y) (listed_same a ha) (listed_same b hb))
     ∙ rw (e0, e1, e2, e3, e4, e5) at f
 
 -- columns of multiples are worth the multiple
 pub multiple_columns : (a : List ℕ) (k : ℕ) {s0 s1 s2 s3 s4 s5 total : ℕ} → length a ≡ 6
-    → s0 ≡ get_or a 0 0 * k → s1 ≡ get_or a 1 0 * k → s2 ≡ get_or a 2 0 * k
-    → s3 ≡ get_or a 3 0 * k → s4 ≡ get_or a 4 0 * k → s5 ≡ get_or a 5 0 * k
-    → value (s0 ∷ s1 ∷ s2 ∷ s3 ∷ s4 ∷ s5 ∷ []) ≡ total → value a * k ≡ total
+    → s0 ≡ get_or a 5 0 * k → s1 ≡ get_or a 4 0 * k → s2 ≡ get_or a 3 0 * k
+    → s3 ≡ get_or a 2 0 * k → s4 ≡ get_or a 1 0 * k → s5 ≡ get_or a 0 0 * k
+    → value (s0 ∷ s1 ∷ s2 ∷ s3 ∷ s4 ∷ s5 ∷ []) ≡ total → number a * k ≡ total
 multiple_columns a k ha e0 e1 e2 e3 e4 e5 f =
-    sym (value_multiples k (listed a) ∙ ap (λ (x : List ℕ). value x * k) (listed_same a ha))
+    sym (value_multiples k (reverse (listed a)) ∙ ap (λ (x : List ℕ). number x * k) (listed_same a ha))
     ∙ rw (e0, e1, e2, e3, e4, e5) at f

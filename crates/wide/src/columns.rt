@@ -1,11 +1,13 @@
 // The one chain of carries: six columns of up to 64 bits become six limbs and what is left over.
-ghost use Rattle.std.specs.Prelude.{◌≡◌, ◌+◌, ◌-◌, ◌*◌, ◌/◌, ◌%◌, ◌^◌, ◌≤◌, [], ◌∷◌};
+ghost use Rattle.std.specs.Prelude.{◌≡◌, ◌+◌, ◌-◌, ◌*◌, ◌/◌, ◌%◌, ◌^◌, ◌<◌, ◌≤◌, [], ◌∷◌};
 ghost use Rattle.wide.specs.Value.{value, modulus};
 
-// Six limbs, and the carry that counts whole multiples of 2^192.
+use crate::number::Wide;
+
+// A number, and the carry that counts whole multiples of 2^192.
 #[derive(Clone, Copy)]
 pub(crate) struct Settled {
-    pub limbs: [u32; 6],
+    pub number: Wide,
     pub carry: u64,
 }
 
@@ -27,16 +29,17 @@ pub(crate) fn limb_product(x: u32, k: u32) -> u64
 pub(crate) fn settle(c0: u64, c1: u64, c2: u64, c3: u64, c4: u64, c5: u64) -> Settled
     requires { (c1 ≤ 2 ^ 64 - 2 ^ 32) × (c2 ≤ 2 ^ 64 - 2 ^ 32) × (c3 ≤ 2 ^ 64 - 2 ^ 32)
         × (c4 ≤ 2 ^ 64 - 2 ^ 32) × (c5 ≤ 2 ^ 64 - 2 ^ 32) }
-    ensures { value (c0 ∷ c1 ∷ c2 ∷ c3 ∷ c4 ∷ c5 ∷ []) ≡ value result.limbs + modulus * result.carry }
+    ensures whole { value (c0 ∷ c1 ∷ c2 ∷ c3 ∷ c4 ∷ c5 ∷ []) ≡ result.number + modulus * result.carry }
+    ensures within { result.number < modulus }
 {
     let d1 = carried(c1, c0);
     let d2 = carried(c2, d1);
     let d3 = carried(c3, d2);
     let d4 = carried(c4, d3);
     let d5 = carried(c5, d4);
-    let limbs = [low(c0), low(d1), low(d2), low(d3), low(d4), low(d5)];
+    let limbs = [low(d5), low(d4), low(d3), low(d2), low(d1), low(c0)];
     Settled {
-        limbs: limbs,
+        number: Wide { limbs },
         carry: d5 / 0x1_0000_0000,
     }
 }

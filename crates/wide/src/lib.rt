@@ -1,4 +1,4 @@
-// Whole numbers below 2^192 in six limbs of 32 bits, by value, the least significant limb first.
+// Whole numbers below 2^192, and the quotients of products of two words.
 // Every function takes every input; a result that could pass 2^192 is exact modulo 2^192.
 #![tactic(auto)]
 
@@ -6,11 +6,10 @@ mod arithmetic;
 mod columns;
 mod digit;
 mod division;
+mod number;
 mod order;
 mod product;
 mod quotient;
 
-pub use arithmetic::{from_u64, multiple, sum};
 pub use division::{product_quotient, products_quotient};
-pub use order::at_most;
-pub use quotient::capped_quotient;
+pub use number::Wide;

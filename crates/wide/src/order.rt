@@ -1,22 +1,52 @@
-// The order of two numbers.
-ghost use Rattle.std.specs.Prelude.{◌≡◌, nat_le};
-ghost use Rattle.wide.specs.Value.{value};
+// The order of two numbers: the highest limbs that differ decide.
+ghost use Rattle.std.specs.Prelude.{◌==◌};
+ghost use Rattle.std.specs.Ordering.{nat_cmp, as_partial_cmp};
+ghost use Rattle.std.proofs.Common.{rules};
+ghost use Rattle.std.specs.Cmp.{partial_order_from_own_ties};
+ghost use Rattle.std.specs.Cmp.Rules.{comparing};
 
-// Whether a is at most b: the highest limbs that differ decide, and equal numbers are.
-pub fn at_most(a: [u32; 6], b: [u32; 6]) -> bool
-    ensures { result ≡ nat_le (value a) (value b) }
-{
-    let mut i: usize = 6;
-    while 0 < i {
-        i -= 1;
-        let x = a[i];
-        let y = b[i];
-        if x < y {
-            return true;
-        }
-        if y < x {
-            return false;
-        }
+use crate::number::Wide;
+use std::cmp::Ordering;
+
+impl PartialEq for Wide {
+    ghost eq = { ◌==◌ };
+
+    ghost laws = { Prim.search (comparing, rules) };
+
+    fn eq(&self, other: &Wide) -> bool {
+        self.limbs == other.limbs
     }
-    true
+}
+
+impl Eq for Wide {
+    ghost laws = { Prim.search (comparing, rules) };
+}
+
+impl PartialOrd for Wide {
+    ghost partial_cmp = { as_partial_cmp nat_cmp };
+
+    ghost laws = { partial_order_from_own_ties (Prim.search (comparing, rules)) (Prim.search (comparing, rules)) };
+
+    fn partial_cmp(&self, other: &Wide) -> Option<Ordering> {
+        Some(self.cmp(other))
+    }
+}
+
+impl Ord for Wide {
+    ghost cmp = { nat_cmp };
+
+    ghost total = { Prim.search (comparing, rules) };
+
+    ghost matches_partial_cmp = { Prim.search (comparing, rules) };
+
+    ghost matches_eq = { Prim.search (comparing, rules) };
+
+    fn cmp(&self, other: &Wide) -> Ordering {
+        for (x, y) in self.limbs.iter().zip(other.limbs.iter()) {
+            if x != y {
+                return x.cmp(y);
+            }
+        }
+        Ordering::Equal
+    }
 }

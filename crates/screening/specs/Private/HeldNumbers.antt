@@ -1,6 +1,6 @@
 -- The figures that are worked out from the arrays that the code holds of a book: its members' numbers, and their
 -- factors.
-use Rattle.std.specs.Prelude.{ℕ, ◌≤◌, ◌<◌, List}
+use Rattle.std.specs.Prelude.{ℕ, ◌≤◌, ◌<◌, List, Option}
 use Rattle.verdict.specs.HeldNumbers.{assessment_in, alpha_in, judged_on, Judgeable}
 use Rattle.verdict.specs.WorkingLevels.{working_levels}
 use Rattle.screening.specs.declared.job.Figures.{Figures}
@@ -10,7 +10,7 @@ use Rattle.verdict.specs.declared.working.WorkingLevels.{WorkingLevels}
 
 -- The figures that a book's numbers and divisor and two arrays of factors give, at the rate and at rate 0, and what is
 -- asked of them.
-abbrev pub figures_by : ℕ → Judgement → WorkingLevels → Figures
+abbrev pub figures_by : ℕ → Judgement → Option WorkingLevels → Figures
 figures_by C judged working = record { concentration = C; verdict = judged.verdict; level = judged.level; working = working }
 
 abbrev pub figures_in : Criterion → ℕ → ℕ → ℕ → List ℕ → List ℕ → List ℕ → Figures

@@ -2,5 +2,5 @@
 use Rattle.text.proofs.Putting.{and_then}
 use Rattle.report.proofs.lines.put_working.Goals as goal
 
-pub returns-in-Levels : goal.returns-in-Levels
-returns-in-Levels c = rw c.in-Levels.is (and_then c.put_line-factor.ensures c.put_line.ensures)
+pub returns-in-Some : goal.returns-in-Some
+returns-in-Some c = rw c.in-Some.is (and_then c.put_line-factor.ensures c.put_line.ensures)

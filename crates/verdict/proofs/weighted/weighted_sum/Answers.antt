@@ -20,7 +20,7 @@ placed-is by coefficients factors margin i {first} place next =
     rw (second, place)
 
 pub loop-i-init : goal.loop-i-init
-loop-i-init c = no_terms _ c.from_u64-total.ensures
+loop-i-init c = no_terms _ c.from-total.ensures
 
 pub loop-i-preserved : goal.loop-i-preserved
 loop-i-preserved c =
@@ -29,7 +29,7 @@ loop-i-preserved c =
     next_term c.loop-i.i _ (omega arith) c.loop-i.invariant
     (weighed ∙ placed-is c.args.by _ _ _ c.loop-i.i place.0 place.1)
     c.weighted-term.ensures.small
-    c.sum-next.ensures
+    c.wrapping_add-next.ensures
 
 pub returns-clause-small : goal.returns-clause-small
 returns-clause-small c = (all_terms _ {count = c.args.count} c.requires.0 (omega arith) c.loop-i.invariant).1

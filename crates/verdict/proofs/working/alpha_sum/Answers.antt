@@ -23,14 +23,14 @@ next-alpha coefficients factors i {total} {term} low high so_far is small added 
     rw (← after) (next_term (i - 1) _ (omega arith) so_far (rw here is) small added)
 
 pub loop-i-init : goal.loop-i-init
-loop-i-init c = no_terms _ c.from_u64-total.ensures
+loop-i-init c = no_terms _ c.from-total.ensures
 
 pub loop-i-preserved : goal.loop-i-preserved
 loop-i-preserved c =
     next-alpha _ _ c.loop-i.i (omega arith) (omega arith) c.loop-i.invariant
     c.alpha_term-term.ensures.exact
     c.alpha_term-term.ensures.small
-    c.sum-next.ensures
+    c.wrapping_add-next.ensures
 
 pub returns-clause-small : goal.returns-clause-small
 returns-clause-small c = (all_terms _ {count = c.args.count - 1} (omega arith) (omega arith) c.loop-i.invariant).1
