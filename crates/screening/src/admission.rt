@@ -5,10 +5,10 @@ ghost use Rattle.refusals.specs.Grounds.{first_met};
 ghost use Rattle.refusals.specs.declared.Checked.TheVariants.{Passed};
 ghost use Rattle.screening.specs.Admission.{admission_with, admission_of};
 
-use crate::check::{check_fields, concentration_in, intake_checked, intake_of};
+use crate::check::{check_fields, intake_of};
 use crate::fields::{JOB_LENGTH, criterion_of, rate_of};
 use book::check_book;
-use refusals::{Checked, Refusal, or_else};
+use refusals::{Checked, Refusal};
 use verdict::Criterion;
 
 // What a room is screened on.
@@ -42,14 +42,16 @@ fn admit_with(job: &[u8], book: &[u8]) -> Admission
     requires { first_met (field_grounds job.now) ≡ Passed }
     ensures { result ≡ admission_with job.now book.now }
 {
-    let intake = intake_of(job);
-    let found = or_else(intake_checked(intake), check_book(book));
-    match found {
+    let concentration = match intake_of(job) {
+        Ok(concentration) => concentration,
+        Err(error) => return Admission::Refused(Refusal::from(error)),
+    };
+    match check_book(book) {
         Checked::Refused(reason) => Admission::Refused(reason),
         Checked::Passed => Admission::Admitted(ScreeningInput {
             by: criterion_of(job),
             rate: rate_of(job),
-            concentration: concentration_in(intake),
+            concentration,
         }),
     }
 }
