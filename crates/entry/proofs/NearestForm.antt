@@ -5,10 +5,10 @@
 use Prim.Native.Nat.{ℕ, suc, ◌+◌, ◌*◌, ◌^◌, ◌≤◌, ◌<◌}
 use native.Mathlib.Nat.{pow-le-pow_right, mul-le-mul, mul-le-mul_left, le_antisymm, eq-or-lt_of_le}
 use native.Mathlib.Nat.{mul-add, mul-sub, le_of_eq, one-le-pow, eq_of_mul-eq-mul_left}
-use native.Mathlib.Decide.{dec_le}
 use native.Mathlib.Omega.{arith}
 use mathlib.Core.Path.{◌≡◌, sym, ap, ap₂, ◌∙◌}
 use mathlib.Core.Logic.{◌⊎◌, inl, inr}
+use Rattle.std.proofs.lemmas.Bool.{cases_order}
 use Rattle.balance.specs.Balance.{G}
 use Rattle.rounding.proofs.Between.{Between}
 use Rattle.entry.specs.Promises.{Printable, apart, distance, NearestPrintable}
@@ -17,17 +17,6 @@ use Rattle.entry.proofs.Places.{power_next}
 times_apart : (k a b : ℕ) → k * apart a b ≡ apart (k * a) (k * b)
 unfolding apart
 times_apart k a b = simp (mul-add, mul-sub)
-
-trichotomy : (m n : ℕ) → (m ≡ n) ⊎ (m < n) ⊎ (n < m)
-trichotomy m n = by_order (dec_le m n)
-  where
-    by_order : Dec (m ≤ n) → (m ≡ n) ⊎ (m < n) ⊎ (n < m)
-    by_order (yes le) = known (eq-or-lt_of_le le)
-      where
-        known : (m ≡ n) ⊎ (m < n) → (m ≡ n) ⊎ (m < n) ⊎ (n < m)
-        known (inl e) = inl e
-        known (inr l) = inr (inl l)
-    by_order (no h) = inr (inr (omega arith))
 
 -- Where a is a number of thousandths, p the entry's and q another's, all over g.
 record Other (g a p q : ℕ) : Type 0 where
@@ -103,10 +92,10 @@ module _ (x d e : ℕ) (between : Between (x * 10 ^ (e + 3)) G d) (turn : 19999 
         higher above below (omega (arith, mul-le-mul_left b more, ap (λ n. n * d') power))
 
     compared : Other (b * G) (b * (x * t)) (b * (d * G)) (t * (d' * G))
-    compared = by_exponent (trichotomy e' e)
+    compared = by_exponent (cases_order e' e)
       where
         by_exponent : (e' ≡ e) ⊎ (e' < e) ⊎ (e < e') → Other (b * G) (b * (x * t)) (b * (d * G)) (t * (d' * G))
-        by_exponent (inl equal) = alike equal (trichotomy d' d)
+        by_exponent (inl equal) = alike equal (cases_order d' d)
         by_exponent (inr (inl less)) = coarser less
         by_exponent (inr (inr more)) = finer more (eq-or-lt_of_le printable.first_digit)
 
@@ -130,7 +119,7 @@ module _ (x d e : ℕ) (between : Between (x * 10 ^ (e + 3)) G d) (turn : 19999 
 same_number :
     {d e d' e' : ℕ} → Printable d e → Printable d' e' → 10 ^ (e + 3) * d' ≡ 10 ^ (e' + 3) * d →
     (d' ≡ d) × (e' ≡ e)
-same_number {d} {e} {d'} {e'} p q equal = by_exponent (trichotomy e' e)
+same_number {d} {e} {d'} {e'} p q equal = by_exponent (cases_order e' e)
   where
     some : (k : ℕ) → 1 ≤ 10 ^ (k + 3)
     some k = one-le-pow (k + 3) 10 (omega arith)

@@ -3,8 +3,9 @@ ghost use Rattle.std.specs.Prelude.{◌≡◌, [], ◌∷◌};
 ghost use Rattle.entry.specs.Form.{digit, sign, form};
 
 use crate::ENTRY_LENGTH;
+use crate::scaling::Share;
 
-// The last digit of a number.
+// The last digit of a number. By hand, since `char::from_digit` answers an Option, and a char of four bytes.
 fn digit(n: u64) -> u8
     ensures { result ≡ digit n }
 {
@@ -18,19 +19,22 @@ fn sign(e: u64) -> u8
     if e == 0 { b'+' } else { b'-' }
 }
 
-// `d` thousandths of 10^-`e`.
-pub(crate) fn printed(d: u64, e: u64) -> [u8; ENTRY_LENGTH]
-    ensures { result ≡ form d e }
-{
-    [
-        digit(d / 1000),
-        b'.',
-        digit(d / 100),
-        digit(d / 10),
-        digit(d),
-        b'E',
-        sign(e),
-        digit(e / 10),
-        digit(e),
-    ]
+impl Share {
+    pub(crate) fn printed(self) -> [u8; ENTRY_LENGTH]
+        ensures { result ≡ form self.thousandths self.exponent }
+    {
+        let d = self.thousandths;
+        let e = self.exponent;
+        [
+            digit(d / 1000),
+            b'.',
+            digit(d / 100),
+            digit(d / 10),
+            digit(d),
+            b'E',
+            sign(e),
+            digit(e / 10),
+            digit(e),
+        ]
+    }
 }

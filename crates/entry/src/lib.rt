@@ -10,7 +10,6 @@ ghost use Rattle.entry.specs.Entry.{entry_of};
 ghost use Rattle.entry.specs.Promises.{EntryPromise};
 
 use balance::GRAINS;
-use digits::printed;
 use scaling::share_of;
 
 // Every entry has nine characters.
@@ -26,12 +25,5 @@ pub fn entry_of(factor: u64) -> [u8; ENTRY_LENGTH]
     if factor == 0 {
         return *b"0.000E+00";
     }
-    let share = share_of(at_most_whole(factor));
-    printed(share.thousandths, share.exponent)
-}
-
-fn at_most_whole(factor: u64) -> u64
-    ensures { result ≡ min factor G }
-{
-    if factor < GRAINS { factor } else { GRAINS }
+    share_of(factor.min(GRAINS)).printed()
 }

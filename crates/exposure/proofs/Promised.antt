@@ -3,19 +3,19 @@ use Prim.Native.Nat.{◌*◌}
 use mathlib.Core.Path.{◌≡◌, refl}
 use mathlib.Core.Bool.{Bool, true, false, cond}
 use mathlib.Core.List.{[], ◌∷◌}
+use Rattle.std.specs.Prelude.{Ok, Err}
 use Rattle.refusals.specs.Grounds.{ground_of, first_met}
 use Rattle.refusals.specs.declared.Refusal.TheVariants.{ExposureOutOfRange}
 use Rattle.rounding.proofs.Between.{nearest_promise}
 use Rattle.exposure.specs.Exposure.{exposure_out_of_range, exposure_checked}
 use Rattle.exposure.specs.Promises.{ExposurePromises}
 use Rattle.exposure.specs.declared.groups.Exposure.{Exposure}
-use Rattle.exposure.specs.declared.groups.ExposureAnswer.{ExposureAnswer}
 use Rattle.exposure.proofs.Shares.{shares_promise}
 use Rattle.exposure.proofs.Restated.{whole_hours}
 
 by_ground :
     (e : Exposure) (out : Bool)
-    → exposure_checked (cond out ExposureAnswer.OutOfRange (ExposureAnswer.Within e))
+    → exposure_checked (cond out (Err ExposureOutOfRange) (Ok e))
     ≡ first_met (ground_of ExposureOutOfRange out ∷ [])
 by_ground e true = refl
 by_ground e false = refl

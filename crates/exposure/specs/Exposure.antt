@@ -1,11 +1,11 @@
 -- The defaults of an exposure, its limits, and ground 6 (document 01). ET is in quarter hours (document 02, R-1).
+use Rattle.std.specs.Prelude.{ℕ, zero, suc, Bool, cond, ◌||◌, ltb, eqb, Result, Ok, Err}
 use Rattle.refusals.specs.Grounds.{Checked}
-use Rattle.std.specs.Prelude.{ℕ, Bool, cond, ◌||◌, ltb, eqb, Ok, Err}
 use Rattle.refusals.specs.declared.Refusal.{Refusal}
 use Rattle.exposure.specs.Totals.{Z}
 use Rattle.exposure.specs.declared.groups.Group.{Group}
 use Rattle.exposure.specs.declared.groups.Exposure.{Exposure}
-use Rattle.exposure.specs.declared.groups.ExposureAnswer.{ExposureAnswer}
+use Rattle.exposure.specs.declared.kind.Kind.{Kind}
 
 -- The defaults of source 001, supplied by name: a resident and a worker.
 abbrev pub group : ℕ → ℕ → ℕ → ℕ → Group
@@ -39,10 +39,16 @@ unfoldable pub exposure_out_of_range : Exposure → Bool
 exposure_out_of_range e = group_out_of_range e.child || group_out_of_range e.adult || eqb (Z e) 0
 
 -- What the constructor of an exposure answers.
-abbrev pub exposure_answer : Exposure → ExposureAnswer
-exposure_answer e = cond (exposure_out_of_range e) ExposureAnswer.OutOfRange (ExposureAnswer.Within e)
+abbrev pub exposure_answer : Exposure → Result Exposure Refusal
+exposure_answer e = cond (exposure_out_of_range e) (Err Refusal.ExposureOutOfRange) (Ok e)
 
 -- What such an answer says of the list of grounds.
-abbrev pub exposure_checked : ExposureAnswer → Checked
-exposure_checked (ExposureAnswer.Within e) = (Ok tt)
-exposure_checked ExposureAnswer.OutOfRange = Err Refusal.ExposureOutOfRange
+abbrev pub exposure_checked : Result Exposure Refusal → Checked
+exposure_checked (Ok e) = Ok tt
+exposure_checked (Err refusal) = Err refusal
+
+-- Kinds 0, 1; by ground 2 there is no other.
+abbrev pub kind_coded : ℕ → Result Kind Refusal
+kind_coded zero = Ok Kind.Risk
+kind_coded (suc zero) = Ok Kind.Dose
+kind_coded (suc (suc code)) = Err Refusal.CodeUnknown

@@ -1,6 +1,10 @@
 // Who is in the room, and for how long: the two groups, their limits and the defaults.
 ghost use Rattle.std.specs.Prelude.{◌≡◌};
+ghost use Rattle.exposure.specs.Totals.{Z};
 ghost use Rattle.exposure.specs.Exposure.{group_out_of_range, exposure_out_of_range, exposure_answer, residential, worker};
+
+use crate::accepted::AcceptedExposure;
+use refusals::Refusal;
 
 const MAX_DAYS: u16 = 366;
 
@@ -24,17 +28,21 @@ pub struct Group {
     pub breathing: u16,
 }
 
+impl Group {
+    fn out_of_range(self) -> bool
+        ensures { result ≡ group_out_of_range self }
+    {
+        (self.days > MAX_DAYS)
+            | (self.years > MAX_YEARS)
+            | (self.quarter_hours > MAX_QUARTER_HOURS)
+            | (self.breathing > MAX_BREATHING)
+    }
+}
+
 #[derive(Clone, Copy)]
 pub struct Exposure {
     pub child: Group,
     pub adult: Group,
-}
-
-// What the constructor answers.
-#[derive(Clone, Copy)]
-pub enum ExposureAnswer {
-    Within(Exposure),
-    OutOfRange,
 }
 
 impl Exposure {
@@ -82,15 +90,19 @@ impl Exposure {
         Exposure::WORKER
     }
 
+    // Z.
+    pub(crate) fn years(self) -> u64
+        ensures { result ≡ Z self }
+    {
+        u64::from(self.child.years) + u64::from(self.adult.years)
+    }
+
     // Refuses a group over its limits, and a Z of 0.
-    pub fn new(child: Group, adult: Group) -> ExposureAnswer
+    pub fn new(child: Group, adult: Group) -> Result<Exposure, Refusal>
         ensures { result ≡ exposure_answer (record { child = child; adult = adult }) }
     {
-        let exposure = Exposure { child, adult };
-        if out_of_range(exposure) {
-            return ExposureAnswer::OutOfRange;
-        }
-        ExposureAnswer::Within(exposure)
+        let accepted = AcceptedExposure::try_from(Exposure { child, adult })?;
+        Ok(accepted.exposure)
     }
 }
 
@@ -99,15 +111,5 @@ impl Exposure {
 pub fn out_of_range(exposure: Exposure) -> bool
     ensures { result ≡ exposure_out_of_range exposure }
 {
-    let years = exposure.child.years as u64 + exposure.adult.years as u64;
-    group_out_of_range(exposure.child) | group_out_of_range(exposure.adult) | (years == 0)
-}
-
-fn group_out_of_range(group: Group) -> bool
-    ensures { result ≡ group_out_of_range group }
-{
-    (group.days > MAX_DAYS)
-        | (group.years > MAX_YEARS)
-        | (group.quarter_hours > MAX_QUARTER_HOURS)
-        | (group.breathing > MAX_BREATHING)
+    exposure.child.out_of_range() | exposure.adult.out_of_range() | (exposure.years() == 0)
 }

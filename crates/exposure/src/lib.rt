@@ -2,12 +2,14 @@
 // reads.
 #![tactic(auto)]
 
+mod accepted;
 mod durations;
 mod groups;
 mod kind;
 mod totals;
 
-pub use groups::{Exposure, ExposureAnswer, Group};
+pub use accepted::AcceptedExposure;
+pub use groups::{Exposure, Group};
 pub use kind::Kind;
 pub use totals::Totals;
 
@@ -17,5 +19,5 @@ pub use groups::out_of_range;
 // What the shares of the years are parts of, for dose.
 pub use durations::HUNDREDTHS;
 
-// X and Y of a kind, of an exposure within the limits (`totals_of` of specs/Totals.antt).
+// X and Y of a kind, of an exposure within its limits (`totals_of` of specs/Totals.antt).
 pub use totals::totals_of;

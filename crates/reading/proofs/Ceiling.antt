@@ -4,6 +4,8 @@ use Prim.Native.Nat.{ℕ, zero, suc, ◌+◌, ◌-◌, ◌*◌, ◌/◌, ◌%◌
 use mathlib.Core.Path.{◌≡◌, ap}
 use native.Mathlib.Nat.{le_antisymm, mul-le-mul_left, mul-le-mul_right, mul-lt-mul_of_pos_right, le_of_mul-le-mul_left, lt_of_mul-lt-mul_left, lt_of_mul-lt-mul_right, div-add-mod, mod-lt}
 use native.Mathlib.Omega.{arith}
+use Rattle.std.specs.Int.{div_ceil}
+use Rattle.std.proofs.lemmas.Grind.{div_ceil_times}
 use Rattle.reading.specs.Reading.{rounded_up, SmallestNotBelow}
 
 pub record Ceiling (a b q : ℕ) : Type 0 where
@@ -16,6 +18,11 @@ rounded_up_is_ceiling a b h =
     let rest = mod-lt (a + (b - 1)) h in
     record { not_below = omega arith; within = omega arith }
 
+-- So is the library's.
+pub div_ceil_is_ceiling : (a b : ℕ) → 0 < b → Ceiling a b (div_ceil a b)
+div_ceil_is_ceiling a b h =
+    let bounds = div_ceil_times a b h in record { not_below = bounds.0; within = bounds.1 }
+
 below_another : {a b p q : ℕ} → 0 < b → Ceiling a b p → Ceiling a b q → p ≤ q
 below_another {a} {b} {p} {q} h x y =
     let l : p < suc q = lt_of_mul-lt-mul_left b (omega (arith, x.within, y.not_below)) in omega arith
@@ -25,6 +32,9 @@ unique h x y = le_antisymm (below_another h x y) (below_another h y x)
 
 pub is_rounded_up : {a b q : ℕ} → 0 < b → Ceiling a b q → q ≡ rounded_up a b
 is_rounded_up {a} {b} h x = unique h x (rounded_up_is_ceiling a b h)
+
+pub div_ceil_is : (a b : ℕ) → 0 < b → div_ceil a b ≡ rounded_up a b
+div_ceil_is a b h = is_rounded_up h (div_ceil_is_ceiling a b h)
 
 smallest : {a b q : ℕ} → Ceiling a b q → SmallestNotBelow a b q
 smallest {a} {b} {q} x =
@@ -54,9 +64,9 @@ of_ceiling {a} {b} {d} {p} {q} h x y =
 pub of_sum : {a b q : ℕ} (k : ℕ) → Ceiling a b q → Ceiling (k * b + a) b (k + q)
 of_sum {a} {b} {q} k x = record { not_below = omega (arith, x.not_below); within = omega (arith, x.within) }
 
-pub of_product : (a m b : ℕ) {r : ℕ} → 0 < b → r ≡ rounded_up (a % b * m) b → a / b * m + r ≡ rounded_up (a * m) b
-of_product a m b {r} h e =
-    let rest : Ceiling (a % b * m) b r = rw e (rounded_up_is_ceiling (a % b * m) b h) in
+pub of_product : (a m b : ℕ) → 0 < b → a / b * m + div_ceil (a % b * m) b ≡ rounded_up (a * m) b
+of_product a m b h =
+    let rest : Ceiling (a % b * m) b (div_ceil (a % b * m) b) = div_ceil_is_ceiling (a % b * m) b h in
     let parts : a / b * m * b + a % b * m ≡ a * m = omega (arith, ap (λ (y : ℕ). m * y) (div-add-mod a b)) in
     is_rounded_up h (rw parts at (of_sum (a / b * m) rest))
 

@@ -11,10 +11,12 @@ use lib.Pow.{pow_pos, pow_mono, pow-add}
 use lib.Ieee.{Float, nan, inf, fin, up, down, binary64, of_bits}
 use lib.Ieee.Exact.{HasValue}
 use lib.Ieee.Fits.{down_pos}
-use Rattle.reading.specs.declared.amounts.Whole.{Whole}
+use Rattle.std.specs.Prelude.{Err}
+use Rattle.std.specs.Int.{div_ceil}
+use Rattle.reading.specs.declared.error.ReadingError.{ReadingError}
 use Rattle.reading.specs.Reading.{unusable, rounded_up, max_concentration}
 use Rattle.reading.specs.Private.Conversion.{exponent_of, significand_of, too_large_exponent, least_places, most_places, other_places, converted, converted_answer}
-use Rattle.reading.proofs.Ceiling.{Ceiling, rounded_up_is_ceiling, unique, same_fraction, of_ceiling, larger_divisor, exceeds}
+use Rattle.reading.proofs.Ceiling.{Ceiling, rounded_up_is_ceiling, div_ceil_is_ceiling, unique, same_fraction, of_ceiling, larger_divisor, exceeds}
 use Rattle.reading.proofs.Pattern.{infinity, value, usable_below}
 
 value_ceiling : (x : Float) (a c m : ℕ) → 0 < c → HasValue x false a c → Ceiling (a * m) c (converted x m)
@@ -45,7 +47,7 @@ too_large n m h hm l =
 
 -- A usable pattern of such an exponent is answered as too large.
 pub large : (n m : ℕ) → unusable (of_bits binary64 n) ≡ false → 0 < m → too_large_exponent ≤ exponent_of n
-    → Whole.TooLarge ≡ converted_answer (of_bits binary64 n) m
+    → Err ReadingError.TooLarge ≡ converted_answer (of_bits binary64 n) m
 large n m u h l =
     rw (u, lt-ltb max_concentration (converted (of_bits binary64 n) m) (too_large n m (usable_below n u) h l))
 
@@ -65,14 +67,14 @@ regroup d m s t p e = omega (arith, ap (λ (y : ℕ). d * m * y) e)
 -- Digits d, p over 21 places, k other places with their power w, and the quotient q: as the code goes.
 pub product_is : (n m : ℕ) {d p k w q : ℕ} → exponent_of n < too_large_exponent
     → d ≡ significand_of n → p ≡ rounded_up (d * m) (2 ^ least_places) → p < 2 ^ most_places
-    → k ≡ other_places n → w ≡ 2 ^ k → q ≡ rounded_up p w → q ≡ converted (of_bits binary64 n) m
+    → k ≡ other_places n → w ≡ 2 ^ k → q ≡ div_ceil p w → q ≡ converted (of_bits binary64 n) m
 product_is n m {d} {p} {k} {w} {q} h ed ep small ek ew eq =
     let s = exponent_of n - 1 in
     let r = too_large_exponent - 2 - s in
     let first : Ceiling (significand_of n * m) (2 ^ least_places) p =
     rw (ep, ed) (rounded_up_is_ceiling _ (2 ^ least_places) (pow_pos least_places))
     in
-    let second : Ceiling p (2 ^ k) q = rw (eq, ew) (rounded_up_is_ceiling p (2 ^ k) (pow_pos k)) in
+    let second : Ceiling p (2 ^ k) q = rw (eq, ew) (div_ceil_is_ceiling p (2 ^ k) (pow_pos k)) in
     let places : 1074 ≡ s + (least_places + r) = omega arith in
     let powers : 2 ^ 1074 ≡ 2 ^ s * (2 ^ least_places * 2 ^ r) =
     ap (λ (y : ℕ). 2 ^ y) places ∙ pow-add 2 s (least_places + r) ∙ ap (λ (y : ℕ). 2 ^ s * y) (pow-add 2 least_places r)

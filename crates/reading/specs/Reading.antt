@@ -1,14 +1,14 @@
 -- From a reading to the concentration C in whole mBq/m³ (document 01, "Reading"), and grounds 7 and 8.
+use Rattle.std.specs.Prelude.{ℕ, zero, suc, ◌+◌, ◌-◌, ◌*◌, ◌/◌, ◌<◌, ◌≤◌, Bool, true, cond, ◌||◌, ltb, Float, Result, Ok, Err}
 use Rattle.refusals.specs.Grounds.{Checked}
-use Rattle.std.specs.Prelude.{ℕ, zero, suc, ◌+◌, ◌-◌, ◌*◌, ◌/◌, ◌<◌, ◌≤◌, Bool, true, cond, ◌||◌, ltb, Float, Ok, Err}
 use Rattle.std.specs.Float.{nan, inf, fin, binary64}
 use Rattle.std.specs.Float.Ieee.{up, down, of_bits}
 use Rattle.refusals.specs.declared.Refusal.{Refusal}
 use Rattle.reading.specs.declared.amounts.Amount.{Amount}
 use Rattle.reading.specs.declared.amounts.Reading.{Reading}
+use Rattle.reading.specs.declared.amounts.Unit.{Unit}
 use Rattle.reading.specs.declared.amounts.Medium.{Medium}
-use Rattle.reading.specs.declared.amounts.Whole.{Whole}
-use Rattle.reading.specs.declared.amounts.Intake.{Intake}
+use Rattle.reading.specs.declared.error.ReadingError.{ReadingError}
 
 -- mBq/m³ in one of each unit: 1 pCi/L = 37 Bq/m³ (source 002).
 abbrev pub per_picocurie_per_litre : ℕ
@@ -30,11 +30,27 @@ figure (Amount.PicocuriesPerLitre x) = x
 figure (Amount.PicocuriesPerCubicMetre x) = x
 figure (Amount.BecquerelsPerCubicMetre x) = x
 
--- Units 0, 1, 2.
+-- Units 0, 1, 2; by ground 2 there is no other.
+abbrev pub unit_coded : ℕ → Result Unit Refusal
+unit_coded zero = Ok Unit.PicocuriesPerLitre
+unit_coded (suc zero) = Ok Unit.PicocuriesPerCubicMetre
+unit_coded (suc (suc zero)) = Ok Unit.BecquerelsPerCubicMetre
+unit_coded (suc (suc (suc code))) = Err Refusal.CodeUnknown
+
+-- The same where any other code is taken as 2.
+abbrev pub unit_of : ℕ → Unit
+unit_of zero = Unit.PicocuriesPerLitre
+unit_of (suc zero) = Unit.PicocuriesPerCubicMetre
+unit_of (suc (suc code)) = Unit.BecquerelsPerCubicMetre
+
+-- A figure in a unit, and in the unit of a code.
+abbrev pub amount_in : Unit → Float → Amount
+amount_in Unit.PicocuriesPerLitre x = Amount.PicocuriesPerLitre x
+amount_in Unit.PicocuriesPerCubicMetre x = Amount.PicocuriesPerCubicMetre x
+amount_in Unit.BecquerelsPerCubicMetre x = Amount.BecquerelsPerCubicMetre x
+
 abbrev pub amount_of : ℕ → Float → Amount
-amount_of zero x = Amount.PicocuriesPerLitre x
-amount_of (suc zero) x = Amount.PicocuriesPerCubicMetre x
-amount_of (suc (suc code)) x = Amount.BecquerelsPerCubicMetre x
+amount_of code x = amount_in (unit_of code) x
 
 -- 7. It has its sign bit set (minus zero too), is infinite or is not a number.
 abbrev pub unusable : Float → Bool
@@ -82,12 +98,19 @@ abbrev pub max_concentration : ℕ
 max_concentration = 4000000000
 
 -- What the conversion of one amount answers.
-abbrev pub whole_answer : Amount → Whole
+abbrev pub whole_answer : Amount → Result ℕ ReadingError
 whole_answer amount =
-    cond (unusable (figure amount)) Whole.Unusable
-    (cond (ltb max_concentration (whole amount)) Whole.TooLarge (Whole.Number (whole amount)))
+    cond (unusable (figure amount)) (Err ReadingError.Unusable)
+    (cond (ltb max_concentration (whole amount)) (Err ReadingError.TooLarge) (Ok (whole amount)))
 
--- Media 0, 1, 2.
+-- Media 0, 1, 2; by ground 2 there is no other.
+abbrev pub medium_coded : ℕ → Result Medium Refusal
+medium_coded zero = Ok Medium.IndoorAir
+medium_coded (suc zero) = Ok Medium.SoilGas
+medium_coded (suc (suc zero)) = Ok Medium.Groundwater
+medium_coded (suc (suc (suc code))) = Err Refusal.CodeUnknown
+
+-- The same where any other code is taken as 2.
 abbrev pub medium_of : ℕ → Medium
 medium_of zero = Medium.IndoorAir
 medium_of (suc zero) = Medium.SoilGas
@@ -113,37 +136,36 @@ through_medium Medium.SoilGas af amount = rounded_up (amount * af) whole_attenua
 through_medium Medium.Groundwater af amount = rounded_up (amount * (henry_constant * af)) whole_henry_attenuation
 
 -- The two parts added, in unit `unit`.
-abbrev pub total : ℕ → Reading → ℕ
-total unit reading = whole (amount_of unit reading.value) + whole (amount_of unit reading.uncertainty)
+abbrev pub total : Unit → Reading → ℕ
+total unit reading = whole (amount_in unit reading.value) + whole (amount_in unit reading.uncertainty)
 
 -- C.
-abbrev pub concentration : ℕ → Medium → ℕ → Reading → ℕ
+abbrev pub concentration : Unit → Medium → ℕ → Reading → ℕ
 concentration unit medium af reading = through_medium medium af (total unit reading)
 
 unfoldable pub reading_unusable : Reading → Bool
 reading_unusable reading = unusable reading.value || unusable reading.uncertainty
 
 -- 8. Either converted part, their sum or C exceeds 4,000,000,000.
-unfoldable pub concentration_too_high : ℕ → Medium → ℕ → Reading → Bool
+unfoldable pub concentration_too_high : Unit → Medium → ℕ → Reading → Bool
 concentration_too_high unit medium af reading =
-    ltb max_concentration (whole (amount_of unit reading.value))
-    || ltb max_concentration (whole (amount_of unit reading.uncertainty))
+    ltb max_concentration (whole (amount_in unit reading.value))
+    || ltb max_concentration (whole (amount_in unit reading.uncertainty))
     || ltb max_concentration (total unit reading)
     || ltb max_concentration (concentration unit medium af reading)
 
 -- What the intake of a reading answers: ground 7, ground 8, or C.
-abbrev pub intake_answer : ℕ → Medium → ℕ → Reading → Intake
+abbrev pub intake_answer : Unit → Medium → ℕ → Reading → Result ℕ ReadingError
 intake_answer unit medium af reading =
-    cond (reading_unusable reading) Intake.Unusable
-    (cond (concentration_too_high unit medium af reading) Intake.TooHigh (Intake.Concentration (concentration unit medium af reading)))
+    cond (reading_unusable reading) (Err ReadingError.Unusable)
+    (cond (concentration_too_high unit medium af reading) (Err ReadingError.TooLarge) (Ok (concentration unit medium af reading)))
 
--- What either answer says of the list of grounds.
-abbrev pub whole_checked : Whole → Checked
-whole_checked (Whole.Number n) = (Ok tt)
-whole_checked Whole.TooLarge = Err Refusal.ConcentrationTooHigh
-whole_checked Whole.Unusable = Err Refusal.ReadingUnusable
+-- Which ground an error is.
+abbrev pub refusal_of : ReadingError → Refusal
+refusal_of ReadingError.Unusable = Refusal.ReadingUnusable
+refusal_of ReadingError.TooLarge = Refusal.ConcentrationTooHigh
 
-abbrev pub intake_checked : Intake → Checked
-intake_checked (Intake.Concentration c) = (Ok tt)
-intake_checked Intake.TooHigh = Err Refusal.ConcentrationTooHigh
-intake_checked Intake.Unusable = Err Refusal.ReadingUnusable
+-- What the conversion of one amount, or the intake of a reading, says of the list of grounds.
+abbrev pub intake_checked : Result ℕ ReadingError → Checked
+intake_checked (Ok c) = Ok tt
+intake_checked (Err error) = Err (refusal_of error)

@@ -15,26 +15,18 @@ pub enum Amount {
     BecquerelsPerCubicMetre(f64),
 }
 
+// What a reading is in.
+#[derive(Clone, Copy, PartialEq, Eq)]
+pub enum Unit {
+    PicocuriesPerLitre,
+    PicocuriesPerCubicMetre,
+    BecquerelsPerCubicMetre,
+}
+
 // What the reading is of.
-#[derive(Clone, Copy)]
+#[derive(Clone, Copy, PartialEq, Eq)]
 pub enum Medium {
     IndoorAir,
     SoilGas,
     Groundwater,
-}
-
-// One amount in whole mBq/m³, rounded up; or why it has none.
-#[derive(Clone, Copy)]
-pub enum Whole {
-    Number(u64),
-    TooLarge,
-    Unusable,
-}
-
-// The concentration that a reading stands for, in mBq/m³; or why it is refused.
-#[derive(Clone, Copy)]
-pub enum Intake {
-    Concentration(u64),
-    TooHigh,
-    Unusable,
 }

@@ -11,6 +11,7 @@ const HIDDEN: u64 = 0x0010_0000_0000_0000;
 const INFINITY: u64 = 0x7FF0_0000_0000_0000;
 
 // Ground 7. The patterns from infinity's on are infinite, not a number, or have the sign bit set.
+// Compared by hand, since is_nan and the like take an f64, and `from_bits` can make none of a NaN's pattern.
 #[tactic(auto, using(crate::proofs::Pattern::unusable_from_infinity))]
 pub fn bits_unusable(bits: u64) -> bool
     ensures { result ≡ unusable (of_bits binary64 bits) }

@@ -1,12 +1,12 @@
 // From a reading to the concentration of its medium.
-ghost use Rattle.std.specs.Prelude.{◌≡◌, ◌^◌, ◌<◌, ◌≤◌};
+ghost use Rattle.std.specs.Prelude.{◌≡◌, ◌≤◌, IfOk};
 ghost use Rattle.reading.specs.Reading.{max_concentration, through_medium, intake_answer};
-ghost use Rattle.reading.specs.Private.Parts.{number_of, sum_of, limited, intake_of_sum};
+ghost use Rattle.reading.specs.Private.Parts.{sum_of};
 
-use crate::amounts::{Intake, Medium, Reading, Whole};
-use crate::codes::amount;
-use crate::conversion::{MAX_CONCENTRATION, cap, whole};
-use crate::rounding::{product_rounded_up, rounded_up};
+use crate::amounts::{Medium, Reading, Unit};
+use crate::conversion::{whole, within_limit};
+use crate::error::ReadingError;
+use crate::rounding::product_rounded_up;
 
 // The whole attenuation: AF is in millionths.
 pub const WHOLE_ATTENUATION: u32 = 1_000_000;
@@ -17,66 +17,43 @@ const HENRY_CONSTANT: u64 = 434;
 // What Henry's constant times AF is in: hundredths of millionths.
 const WHOLE_HENRY_ATTENUATION: u64 = 100_000_000;
 
-// The concentration that a reading in unit `unit` stands for: value and uncertainty are each converted, added, and
-// taken through the medium with attenuation `af`. An unusable part comes before one that is too large.
-pub fn intake(unit: u8, medium: Medium, af: u32, reading: Reading) -> Intake
+// The concentration that a reading stands for: value and uncertainty are each converted, added, and taken through the
+// medium with attenuation `af`.
+pub fn intake(unit: Unit, medium: Medium, af: u32, reading: Reading) -> Result<u64, ReadingError>
     ensures { result ≡ intake_answer unit medium af reading }
 {
-    let value = whole(amount(unit, reading.value));
-    let uncertainty = whole(amount(unit, reading.uncertainty));
-    answer(medium, af as u64, sum(value, uncertainty))
+    let value = whole(unit.amount(reading.value));
+    let uncertainty = whole(unit.amount(reading.uncertainty));
+    let total = sum(value, uncertainty)?;
+    within_limit(through_medium(medium, af, total))
 }
 
-fn sum(value: Whole, uncertainty: Whole) -> Whole
-    requires { (number_of value ≤ max_concentration) × (number_of uncertainty ≤ max_concentration) }
+// An unusable part comes before one that is too large.
+fn sum(
+    value: Result<u64, ReadingError>,
+    uncertainty: Result<u64, ReadingError>,
+) -> Result<u64, ReadingError>
+    requires value { IfOk value (λ n. n ≤ max_concentration) }
+    requires uncertainty { IfOk uncertainty (λ n. n ≤ max_concentration) }
     ensures { result ≡ sum_of value uncertainty }
 {
-    match value {
-        Whole::Unusable => Whole::Unusable,
-        Whole::TooLarge => match uncertainty {
-            Whole::Unusable => Whole::Unusable,
-            Whole::TooLarge => Whole::TooLarge,
-            Whole::Number(_) => Whole::TooLarge,
-        },
-        Whole::Number(m) => match uncertainty {
-            Whole::Unusable => Whole::Unusable,
-            Whole::TooLarge => Whole::TooLarge,
-            Whole::Number(n) => cap(m + n),
-        },
+    if uncertainty == Err(ReadingError::Unusable) {
+        return uncertainty;
     }
+    within_limit(value? + uncertainty?)
 }
 
-fn answer(medium: Medium, af: u64, total: Whole) -> Intake
-    requires { (af < 2 ^ 32) × (number_of total ≤ max_concentration) }
-    ensures { result ≡ intake_of_sum medium af total }
-{
-    match total {
-        Whole::Unusable => Intake::Unusable,
-        Whole::TooLarge => Intake::TooHigh,
-        Whole::Number(n) => limit(through_medium(medium, af, n)),
-    }
-}
-
-fn through_medium(medium: Medium, af: u64, number: u64) -> u64
-    requires { (af < 2 ^ 32) × (number ≤ max_concentration) }
+#[tactic(auto, using(crate::proofs::Ceiling::div_ceil_is))]
+fn through_medium(medium: Medium, af: u32, number: u64) -> u64
+    requires { number ≤ max_concentration }
     ensures { result ≡ through_medium medium af number }
 {
+    let attenuated = number * u64::from(af);
     match medium {
         Medium::IndoorAir => number,
-        Medium::SoilGas => rounded_up(number * af, WHOLE_ATTENUATION as u64),
-        Medium::Groundwater => product_rounded_up(
-            number * af,
-            HENRY_CONSTANT,
-            WHOLE_HENRY_ATTENUATION,
-        ),
+        Medium::SoilGas => attenuated.div_ceil(u64::from(WHOLE_ATTENUATION)),
+        Medium::Groundwater => {
+            product_rounded_up(attenuated, HENRY_CONSTANT, WHOLE_HENRY_ATTENUATION)
+        },
     }
-}
-
-fn limit(concentration: u64) -> Intake
-    ensures { result ≡ limited concentration }
-{
-    if concentration > MAX_CONCENTRATION {
-        return Intake::TooHigh;
-    }
-    Intake::Concentration(concentration)
 }

@@ -1,24 +1,25 @@
 // The exact conversion of an amount to whole mBq/m³, rounded up.
-ghost use Rattle.std.specs.Prelude.{◌≡◌, ◌*◌, ◌^◌, ◌<◌, ◌≤◌};
+ghost use Rattle.std.specs.Prelude.{◌≡◌, ◌*◌, ◌^◌, ◌<◌};
 ghost use Rattle.std.specs.Float.Ieee.{of_bits};
 ghost use Rattle.std.specs.Float.{binary64};
-ghost use Rattle.reading.specs.Reading.{per_picocurie_per_litre, rounded_up, whole_answer};
+ghost use Rattle.reading.specs.Reading.{rounded_up, whole_answer};
 ghost use Rattle.reading.specs.Promises.{ReadingPromise};
 ghost use Rattle.reading.specs.Private.Conversion.{exponent_of, too_large_exponent, least_places, most_places, other_places, converted, converted_answer, capped};
 
-use crate::amounts::{Amount, Whole};
+use crate::amounts::Amount;
 use crate::binary64::{bits_unusable, exponent, significand};
-use crate::rounding::{power_of_two, product_rounded_up, rounded_up};
+use crate::error::ReadingError;
+use crate::rounding::{power_of_two, product_rounded_up};
 
 // mBq/m³ in one of each unit.
-const PER_PICOCURIE_PER_LITRE: u64 = 37_000;
+const PER_PICOCURIE_PER_LITRE: u16 = 37_000;
 
-const PER_PICOCURIE_PER_CUBIC_METRE: u64 = 37;
+const PER_PICOCURIE_PER_CUBIC_METRE: u16 = 37;
 
-const PER_BECQUEREL_PER_CUBIC_METRE: u64 = 1_000;
+const PER_BECQUEREL_PER_CUBIC_METRE: u16 = 1_000;
 
 // The largest concentration, in mBq/m³.
-pub(crate) const MAX_CONCENTRATION: u64 = 4_000_000_000;
+const MAX_CONCENTRATION: u64 = 4_000_000_000;
 
 // From this exponent on the value is at least 2^32, which is too large in every unit.
 const TOO_LARGE_EXPONENT: u64 = 1055;
@@ -30,8 +31,8 @@ const LEAST_PLACES_POWER: u64 = 0x20_0000;
 const MOST_PLACES: u64 = 60;
 
 // The smallest whole number of mBq/m³ not below the amount's exact value.
-#[tactic(auto, unfolding(crate::specs::Reading::whole, crate::specs::Private::Conversion::converted))]
-pub fn whole(amount: Amount) -> Whole
+#[tactic(auto, using(crate::proofs::Promised::reading_promise), unfolding(crate::specs::Reading::whole, crate::specs::Private::Conversion::converted))]
+pub fn whole(amount: Amount) -> Result<u64, ReadingError>
     ensures answered { result ≡ whole_answer amount }
     ensures sound { ReadingPromise amount }
 {
@@ -43,56 +44,55 @@ pub fn whole(amount: Amount) -> Whole
 }
 
 // A NaN has no pattern of its own, so it is told apart before the pattern is taken.
-fn convert(x: f64, multiplier: u64) -> Whole
-    requires { (0 < multiplier) × (multiplier ≤ per_picocurie_per_litre) }
+fn convert(x: f64, multiplier: u16) -> Result<u64, ReadingError>
+    requires { 0 < multiplier }
     ensures { result ≡ converted_answer x multiplier }
 {
-    if x != x {
-        return Whole::Unusable;
+    if x.is_nan() {
+        return Err(ReadingError::Unusable);
     }
-    convert_bits(f64::to_bits(x), multiplier)
+    convert_bits(x.to_bits(), multiplier)
 }
 
-fn convert_bits(bits: u64, multiplier: u64) -> Whole
-    requires { (0 < multiplier) × (multiplier ≤ per_picocurie_per_litre) }
+#[tactic(auto, using(crate::proofs::Product::large))]
+fn convert_bits(bits: u64, multiplier: u16) -> Result<u64, ReadingError>
+    requires { 0 < multiplier }
     ensures { result ≡ converted_answer (of_bits binary64 bits) multiplier }
 {
     if bits_unusable(bits) {
-        return Whole::Unusable;
+        return Err(ReadingError::Unusable);
     }
     if exponent(bits) >= TOO_LARGE_EXPONENT {
-        return Whole::TooLarge;
+        return Err(ReadingError::TooLarge);
     }
-    cap(product(bits, multiplier))
+    within_limit(product(bits, multiplier))
 }
 
-pub(crate) fn cap(number: u64) -> Whole
+pub(crate) fn within_limit(number: u64) -> Result<u64, ReadingError>
     ensures { result ≡ capped number }
 {
     if number > MAX_CONCENTRATION {
-        return Whole::TooLarge;
+        return Err(ReadingError::TooLarge);
     }
-    Whole::Number(number)
+    Ok(number)
 }
 
 // The product of the significand and the multiplier is divided by 2^21 first and by the other places then, each
 // rounded up: a ceiling of a ceiling is the ceiling.
-fn product(bits: u64, multiplier: u64) -> u64
-    requires { (exponent_of bits < too_large_exponent) × (multiplier ≤ per_picocurie_per_litre) }
+#[tactic(auto, using(crate::proofs::Product::product_is))]
+fn product(bits: u64, multiplier: u16) -> u64
+    requires { exponent_of bits < too_large_exponent }
     ensures { result ≡ converted (of_bits binary64 bits) multiplier }
 {
-    rounded_up(
-        over_least_places(significand(bits), multiplier),
-        power_of_two(other_places(bits)),
-    )
+    over_least_places(significand(bits), multiplier).div_ceil(power_of_two(other_places(bits)))
 }
 
-fn over_least_places(digits: u64, multiplier: u64) -> u64
-    requires { (digits < 2 ^ 53) × (multiplier ≤ per_picocurie_per_litre) }
+fn over_least_places(digits: u64, multiplier: u16) -> u64
+    requires { digits < 2 ^ 53 }
     ensures value { result ≡ rounded_up (digits * multiplier) (2 ^ least_places) }
     ensures range { result < 2 ^ most_places }
 {
-    product_rounded_up(digits, multiplier, LEAST_PLACES_POWER)
+    product_rounded_up(digits, u64::from(multiplier), LEAST_PLACES_POWER)
 }
 
 // The places beyond 21, but no more than 60. At exponent 1,054 there are none, and one more for each step down.
@@ -100,9 +100,5 @@ fn other_places(bits: u64) -> u64
     requires { exponent_of bits < too_large_exponent }
     ensures { result ≡ other_places bits }
 {
-    let places = TOO_LARGE_EXPONENT - 1 - exponent(bits);
-    if places > MOST_PLACES {
-        return MOST_PLACES;
-    }
-    places
+    (TOO_LARGE_EXPONENT - 1 - exponent(bits)).min(MOST_PLACES)
 }

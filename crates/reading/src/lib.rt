@@ -7,9 +7,13 @@ mod binary64;
 mod codes;
 mod concentration;
 mod conversion;
+mod error;
 mod rounding;
 
-pub use amounts::{Amount, Intake, Medium, Reading, Whole};
+pub use amounts::{Amount, Medium, Reading, Unit};
+
+// Why a reading has no concentration, and its ground, 7 or 8 (`refusal_of` of specs/Reading.antt).
+pub use error::ReadingError;
 
 // One amount: the smallest whole number of mBq/m³ not below its exact value (`whole_answer` of specs/Reading.antt,
 // `ReadingPromise` of specs/Promises.antt).
@@ -22,8 +26,9 @@ pub use concentration::intake;
 // The whole attenuation, in the millionths in which the intake takes it.
 pub use concentration::WHOLE_ATTENUATION;
 
-// The amount of a figure in the unit of a code (`amount_of`), and the medium of a code (`medium_of`).
-pub use codes::{amount, medium};
+// The unit of a code (`unit_of`), the amount of a figure in it (`amount_of`), and the medium of a code (`medium_of`), for
+// every code. Of a unit and of a medium `TryFrom` refuses an unknown code by ground 2 (`unit_coded`, `medium_coded`).
+pub use codes::{amount, medium, unit};
 
 // The bit pattern of an f64: whether ground 7 refuses it (`unusable`), and its f64 (`float_of`).
 pub use binary64::{bits_unusable, float};

@@ -90,3 +90,6 @@ pub unrounded : (n : ℕ) {a b : ℕ} → 0 < b → n * b ≡ a → nearest a b 
 unrounded n {a} {b} pos even =
     let whole : Between a b n = record { above = omega arith; below = omega arith } in
     ap (λ q. q * b) (unique (nearest_between a b pos) whole) ∙ even
+
+-- What the code reads of the division.
+pub ruleset by_rest = (nearest_by_none, rest_below_half, rest_from_half)

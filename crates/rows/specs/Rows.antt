@@ -3,7 +3,7 @@
 -- rates (R-6): one list, one computation over the definitions.
 use Rattle.refusals.specs.Grounds.{answer_number}
 use Rattle.std.specs.Prelude.{ℕ, suc, ℤ, pos, negsuc, ◌*◌, ◌/◌, Bool, true, false, ◌&&◌, ◌≡◌, refl, eqb, nat_le}
-use Rattle.std.specs.Prelude.{List, [], ◌∷◌, ◌++◌, replicate, length}
+use Rattle.std.specs.Prelude.{List, [], ◌∷◌, ◌++◌, replicate, length, Result, Ok, Err}
 use Prim.Native.String.{String}
 use Rattle.std.specs.Float.Ieee.{odd, of_bits}
 use Rattle.std.specs.Float.{binary64}
@@ -21,10 +21,9 @@ use Rattle.minutes.specs.Periods.{period_rate_too_high, periods_out_of_range, pe
 use Rattle.text.specs.Words.{ascii, decimal, line_feed}
 use Rattle.entry.specs.Entry.{exponent_up_to, entry_of}
 use Rattle.tables.specs.Answers.{some_rate_too_high, table_answer, table_buffer}
-use Rattle.reading.specs.Reading.{amount_of, medium_of, whole, whole_answer, reading_unusable, concentration_too_high}
+use Rattle.reading.specs.Reading.{amount_of, unit_of, medium_of, whole, whole_answer, reading_unusable, concentration_too_high}
 use Rattle.reading.specs.Reading.{intake_answer}
-use Rattle.reading.specs.declared.amounts.Intake.{Intake}
-use Rattle.reading.specs.declared.amounts.Whole.{Whole}
+use Rattle.reading.specs.declared.error.ReadingError.{ReadingError}
 use Rattle.rounding.specs.Nearest.{nearest}
 use Rattle.exposure.specs.Totals.{X, Y}
 use Rattle.exposure.specs.Exposure.{residential, worker, exposure_out_of_range}
@@ -129,15 +128,9 @@ lines : List String → List ℕ
 lines [] = []
 lines (line ∷ more) = ascii line ++ line_feed ++ lines more
 
-number_is : Whole → ℕ → Bool
-number_is (Whole.Number m) n = eqb m n
-number_is Whole.TooLarge n = false
-number_is Whole.Unusable n = false
-
-concentration_is : Intake → ℕ → Bool
-concentration_is (Intake.Concentration c) n = eqb c n
-concentration_is Intake.TooHigh n = false
-concentration_is Intake.Unusable n = false
+number_is : Result ℕ ReadingError → ℕ → Bool
+number_is (Ok m) n = eqb m n
+number_is (Err error) n = false
 
 verdict_is : Outcome → Verdict → Bool
 verdict_is (Outcome.Screened figures) v = eqb (verdict_order figures.verdict) (verdict_order v)
@@ -163,8 +156,8 @@ holds (factors v book expected) =
 holds (exposed kind e x y) = eqb (X kind e) x && eqb (Y kind e) y
 holds (reads unit bits n) = number_is (whole_answer (amount_of unit (of_bits binary64 bits))) n
 holds (measures medium unit af bits C) =
-    concentration_is
-    (intake_answer unit (medium_of medium) af
+    number_is
+    (intake_answer (unit_of unit) (medium_of medium) af
     (record { value = of_bits binary64 bits; uncertainty = of_bits binary64 0 }))
     C
 holds (working C Fm W n) = eqb (micro_levels C Fm W) n
@@ -241,5 +234,5 @@ unfolding
     occurrences feed_not_once feeds_misplaced feed_not_from_lower shares_out_too_high in_member_order reported minute minutes
     after_periods period_rate_too_high periods_out_of_range nearest exposure_out_of_range whole reading_unusable
     concentration_too_high code_unknown attenuation_out_of_range sum_below level working_levels figures_at number_is
-    concentration_is verdict_is level_is odd of_bits count_trailing_zeros
+    verdict_is level_is odd of_bits count_trailing_zeros
 every_marked_row_holds = refl

@@ -11,9 +11,10 @@ use lib.Seq.{take_all}
 use Rattle.refusals.specs.Grounds.{first_met, Checked}
 use Rattle.refusals.specs.declared.Refusal.{Refusal}
 use Rattle.book.specs.Fields.{coefficient}
-use Rattle.screening.specs.Job.{job_length, book_of}
+use Rattle.reading.specs.declared.error.ReadingError.{ReadingError}
+use Rattle.screening.specs.Job.{rate, concentration_of, intake_of, job_length, book_of}
 use Rattle.screening.specs.JobGrounds.{checked_job, field_grounds}
-use Rattle.screening.specs.Screening.{screened_at, answer_for, answer_of}
+use Rattle.screening.specs.Screening.{criterion_of, screened_at, answer_for, answer_of}
 use Rattle.screening.specs.Admission.{input_of, admission_for, admission_with, admission_of}
 use Rattle.screening.specs.Screenable.{Screenable}
 use Rattle.screening.specs.declared.admission.ScreeningInput.{ScreeningInput}
@@ -24,9 +25,21 @@ use Rattle.screening.proofs.JobChecks.{refused_by_fields, JobPasses, job_passes}
 pub lent_book : (job : List ℕ) → take (length job - job_length) (book_of job) ≡ book_of job
 lent_book job = take_all (length job - job_length) (book_of job) (le_of_eq (length-drop job_length job))
 
+ok_is : {answer : Result ℕ ReadingError} {c n : ℕ} → answer ≡ Ok c → answer ≡ Ok n → c ≡ n
+ok_is e f = cc
+
 module _ (job book : List ℕ) {found : Checked} (told : found ≡ checked_job job book) where
   pub refused_is : {refusal : Refusal} → found ≡ Err refusal → Err refusal ≡ admission_with job book
   refused_is refused = ap (λ result. admission_for result job) (sym refused ∙ told)
+
+  -- One that passes is admitted with the concentration that its reading has.
+  pub admitted_is :
+      {c : ℕ} → found ≡ Ok tt → intake_of job ≡ Ok c →
+      Ok (record { by = criterion_of job; rate = rate job; concentration = c }) ≡ admission_with job book
+  admitted_is {c} passed intake =
+      let is : concentration_of job ≡ c = ok_is (job_passes job book (sym told ∙ passed)).reading.is intake in
+      ap (λ n. Ok (record { by = criterion_of job; rate = rate job; concentration = n })) (sym is)
+      ∙ ap (λ result. admission_for result job) (sym passed ∙ told)
 
 -- A job whose own fields refuse it is refused, whatever book follows.
 pub refused_by_fields_is :

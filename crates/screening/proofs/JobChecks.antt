@@ -2,7 +2,7 @@
 -- no ground is met, so each condition is false, and a false comparison gives an order.
 use Rattle.std.specs.Prelude.{Ok, Err}
 use Prim.Native.Nat.{ℕ, ◌≤◌}
-use mathlib.Core.Path.{◌≡◌, refl, ap, ap₂, sym, ◌∙◌}
+use mathlib.Core.Path.{◌≡◌, refl, ap, sym, ◌∙◌}
 use mathlib.Core.Bool.{Bool, true, false, cond}
 use mathlib.Core.List.{List, [], ◌∷◌, ◌++◌}
 use lib.Dec.{ltb}
@@ -13,14 +13,14 @@ use Rattle.refusals.specs.declared.Refusal.{Refusal}
 use Rattle.refusals.proofs.FirstMet.{first_of_both, not_met, both_pass}
 use Rattle.book.specs.BookGrounds.{book_grounds, Accepted}
 use Rattle.book.specs.Rates.{max_rate}
-use Rattle.reading.specs.Reading.{medium_of, reading_unusable, concentration_too_high, max_concentration, intake_checked}
-use Rattle.reading.specs.declared.amounts.Intake.{Intake}
+use Rattle.reading.specs.Reading.{unit_of, medium_of, reading_unusable, concentration_too_high, max_concentration, refusal_of, intake_checked}
+use Rattle.std.specs.Prelude.{Result, Ok, Err}
+use Rattle.reading.specs.declared.error.ReadingError.{ReadingError}
 use Rattle.reading.proofs.PartsJoined.{concentration_within}
 use Rattle.screening.specs.Job.{rate, medium, unit, target, attenuation, reading_of, for_reading, concentration_of, intake_of, exposure_of, job_length}
 use Rattle.exposure.specs.Exposure.{exposure_out_of_range}
 use Rattle.verdict.specs.Verdict.{max_target}
 use Rattle.screening.specs.JobGrounds.{code_unknown, attenuation_out_of_range, checked_job, field_grounds, reading_grounds}
-use Rattle.screening.specs.Private.Checks.{concentration_in}
 
 pub checked_by_parts :
     (job book : List ℕ)
@@ -32,7 +32,7 @@ checked_by_parts job book =
 -- A reading's grounds are those that its intake answers.
 of_intake :
     (unusable high : Bool) (c : ℕ)
-    → intake_checked (cond unusable Intake.Unusable (cond high Intake.TooHigh (Intake.Concentration c)))
+    → intake_checked (cond unusable (Err ReadingError.Unusable) (cond high (Err ReadingError.TooLarge) (Ok c)))
     ≡ first_met (ground_of Refusal.ReadingUnusable unusable ∷ ground_of Refusal.ConcentrationTooHigh high ∷ [])
 of_intake true high c = refl
 of_intake false true c = refl
@@ -41,19 +41,26 @@ of_intake false false c = refl
 pub reading_checked : (job : List ℕ) → intake_checked (intake_of job) ≡ first_met (reading_grounds job)
 reading_checked job = of_intake (reading_unusable (reading_of job)) (for_reading concentration_too_high job) (concentration_of job)
 
--- What the code finds after the fields have passed.
-pub later_found :
-    (job book : List ℕ) {found reading checked : Checked} {intake : Intake}
-    → first_met (field_grounds job) ≡ Ok tt
-    → found ≡ or_else reading checked
-    → reading ≡ intake_checked intake
-    → intake ≡ intake_of job
-    → checked ≡ first_met (book_grounds book)
-    → found ≡ checked_job job book
-later_found job book passed joined read taken checked =
-    joined
-    ∙ ap₂ or_else (read ∙ ap intake_checked taken ∙ reading_checked job) checked
-    ∙ sym (checked_by_parts job book ∙ ap (λ first. or_else first (or_else (first_met (reading_grounds job)) (first_met (book_grounds book)))) passed)
+-- What the code finds after the fields have passed: the reading's error, or with a concentration what the book's checks
+-- find.
+module _ (job book : List ℕ) (passed : first_met (field_grounds job) ≡ Ok tt) where
+  after_fields : checked_job job book ≡ or_else (intake_checked (intake_of job)) (first_met (book_grounds book))
+  after_fields =
+      checked_by_parts job book
+      ∙ ap (λ first. or_else first (or_else (first_met (reading_grounds job)) (first_met (book_grounds book)))) passed
+      ∙ ap (λ reading. or_else reading (first_met (book_grounds book))) (sym (reading_checked job))
+
+  pub refused_by_reading :
+      {answer : Result ℕ ReadingError} {error : ReadingError} → answer ≡ intake_of job → answer ≡ Err error →
+      checked_job job book ≡ Err (refusal_of error)
+  refused_by_reading told is =
+      after_fields ∙ ap (λ reading. or_else (intake_checked reading) (first_met (book_grounds book))) (sym told ∙ is)
+
+  pub found_by_book :
+      {answer : Result ℕ ReadingError} {c : ℕ} {found : Checked} → answer ≡ intake_of job → answer ≡ Ok c →
+      found ≡ first_met (book_grounds book) → found ≡ checked_job job book
+  found_by_book told is found =
+      found ∙ sym (after_fields ∙ ap (λ reading. or_else (intake_checked reading) (first_met (book_grounds book))) (sym told ∙ is))
 
 pub refused_by_fields :
     (job book : List ℕ) {refusal : Refusal} → first_met (field_grounds job) ≡ Err refusal → checked_job job book ≡ Err refusal
@@ -83,12 +90,12 @@ fields_pass job passed =
 
 -- A reading that passes has a concentration, within its limit.
 pub record ReadingPasses (job : List ℕ) : Type 0 where
-  pub is : concentration_in (intake_of job) ≡ concentration_of job
+  pub is : intake_of job ≡ Ok (concentration_of job)
   pub within : concentration_of job ≤ max_concentration
 
 in_intake :
     (unusable high : Bool) (c : ℕ) → unusable ≡ false → high ≡ false →
-    concentration_in (cond unusable Intake.Unusable (cond high Intake.TooHigh (Intake.Concentration c))) ≡ c
+    cond unusable (Err ReadingError.Unusable) (cond high (Err ReadingError.TooLarge) (Ok c)) ≡ Ok c
 in_intake unusable high c u h = rw (u, h)
 
 pub reading_passes : (job : List ℕ) → first_met (reading_grounds job) ≡ Ok tt → ReadingPasses job
@@ -97,7 +104,7 @@ reading_passes job passed =
     let g8 = not_met (for_reading concentration_too_high job) _ _ g7.1 in
     record {
       is = in_intake (reading_unusable (reading_of job)) (for_reading concentration_too_high job) (concentration_of job) g7.0 g8.0;
-      within = concentration_within (unit job) (medium_of (medium job)) (attenuation job) (reading_of job) g8.0;
+      within = concentration_within (unit_of (unit job)) (medium_of (medium job)) (attenuation job) (reading_of job) g8.0;
     }
 
 pub record JobPasses (job book : List ℕ) : Type 0 where

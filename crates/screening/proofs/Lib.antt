@@ -9,6 +9,7 @@ pub mod Falling
 pub mod FactorsAtRate
 pub mod HeldNumbers
 -- The whole job: its checks, its answer, and demand 3.
+pub mod CodesTaken
 pub mod JobChecks
 pub mod SameBytes
 pub mod LongInput

@@ -8,8 +8,9 @@ use mathlib.Core.List.{[], ◌∷◌}
 use lib.Dec.{ltb}
 use Rattle.refusals.specs.Grounds.{ground_of, first_met}
 use Rattle.refusals.specs.declared.Refusal.TheVariants.{ReadingUnusable, ConcentrationTooHigh}
-use Rattle.reading.specs.Reading.{figure, unusable, whole, max_concentration, whole_checked}
-use Rattle.reading.specs.declared.amounts.Whole.{Whole}
+use Rattle.reading.specs.Reading.{figure, unusable, whole, max_concentration, intake_checked}
+use Rattle.std.specs.Prelude.{Ok, Err}
+use Rattle.reading.specs.declared.error.ReadingError.{ReadingError}
 use Rattle.reading.proofs.Promised.{reading_promise}
 use Rattle.balance.proofs.Promised.{factor_promises}
 use Rattle.screening.specs.Promises.{Demand3, Promises}
@@ -42,7 +43,7 @@ demand_3 =
 
 whole_grounds :
     (unusable high : Bool) (n : ℕ)
-    → whole_checked (cond unusable Whole.Unusable (cond high Whole.TooLarge (Whole.Number n)))
+    → intake_checked (cond unusable (Err ReadingError.Unusable) (cond high (Err ReadingError.TooLarge) (Ok n)))
     ≡ first_met (ground_of ReadingUnusable unusable ∷ ground_of ConcentrationTooHigh high ∷ [])
 whole_grounds true high n = refl
 whole_grounds false true n = refl

@@ -12,7 +12,8 @@ use Rattle.refusals.specs.declared.Refusal.TheVariants.{ReadingUnusable, Concent
 use Rattle.numbers.specs.Bytes.{u16_at, u32_at, u64_at}
 use Rattle.book.specs.BookGrounds.{book_grounds}
 use Rattle.book.specs.Rates.{max_rate}
-use Rattle.reading.specs.Reading.{medium_of, reading_unusable, concentration, concentration_too_high}
+use Rattle.reading.specs.Reading.{unit_of, medium_of, reading_unusable, concentration, concentration_too_high}
+use Rattle.reading.specs.declared.amounts.Unit.{Unit}
 use Rattle.reading.specs.declared.amounts.Medium.{Medium}
 use Rattle.reading.specs.declared.amounts.Reading.{Reading}
 use Rattle.screening.specs.Job.{rate_length, rate, kind, kind_of, medium, unit, target, attenuation, job_length, book_of}
@@ -67,13 +68,13 @@ module _ {a b : List ℕ} (same : SameFields a b) where
   reading_same : reading_of a ≡ reading_of b
   reading_same = rw (u64_same 16 (omega arith) (omega arith), u64_same 24 (omega arith) (omega arith))
 
-  pub for_reading_same : {A : Type 0} (says : ℕ → Medium → ℕ → Reading → A) → for_reading says a ≡ for_reading says b
+  pub for_reading_same : {A : Type 0} (says : Unit → Medium → ℕ → Reading → A) → for_reading says a ≡ for_reading says b
   for_reading_same says =
       ap₂
-      (λ u m. says u (medium_of m) (attenuation a) (reading_of a))
+      (λ u m. says (unit_of u) (medium_of m) (attenuation a) (reading_of a))
       (same.byte 6 (omega arith) (omega arith))
       (same.byte 5 (omega arith) (omega arith))
-      ∙ ap₂ (says (unit b) (medium_of (medium b))) (u32_same 12 (omega arith) (omega arith)) reading_same
+      ∙ ap₂ (says (unit_of (unit b)) (medium_of (medium b))) (u32_same 12 (omega arith) (omega arith)) reading_same
 
   pub reading_found_same : first_met (reading_grounds a) ≡ first_met (reading_grounds b)
   reading_found_same =

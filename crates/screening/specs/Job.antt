@@ -1,11 +1,12 @@
 -- The fields of a job (document 01, "Book and job").
-use Rattle.std.specs.Prelude.{ℕ, zero, suc, ◌+◌, List, drop}
+use Rattle.std.specs.Prelude.{ℕ, zero, suc, ◌+◌, List, drop, Result}
 use Rattle.std.specs.Float.Ieee.{of_bits}
 use Rattle.std.specs.Float.{binary64}
 use Rattle.numbers.specs.Bytes.{u8_at, u16_at, u32_at, u64_at}
 use Rattle.book.specs.Fields.{longest_book}
-use Rattle.reading.specs.Reading.{medium_of, concentration, intake_answer}
-use Rattle.reading.specs.declared.amounts.Intake.{Intake}
+use Rattle.reading.specs.Reading.{unit_of, medium_of, concentration, intake_answer}
+use Rattle.reading.specs.declared.error.ReadingError.{ReadingError}
+use Rattle.reading.specs.declared.amounts.Unit.{Unit}
 use Rattle.reading.specs.declared.amounts.Medium.{Medium}
 use Rattle.reading.specs.declared.amounts.Reading.{Reading}
 use Rattle.exposure.specs.declared.groups.Group.{Group}
@@ -50,14 +51,14 @@ abbrev pub reading_of : List ℕ → Reading
 reading_of job = record { value = of_bits binary64 (u64_at job 16); uncertainty = of_bits binary64 (u64_at job 24) }
 
 -- What a definition says of the job's reading, in its unit and its medium, with its attenuation.
-abbrev pub for_reading : {A : Type 0} → (ℕ → Medium → ℕ → Reading → A) → List ℕ → A
-for_reading says job = says (unit job) (medium_of (medium job)) (attenuation job) (reading_of job)
+abbrev pub for_reading : {A : Type 0} → (Unit → Medium → ℕ → Reading → A) → List ℕ → A
+for_reading says job = says (unit_of (unit job)) (medium_of (medium job)) (attenuation job) (reading_of job)
 
 -- C, and what the intake of the reading answers.
 abbrev pub concentration_of : List ℕ → ℕ
 concentration_of job = for_reading concentration job
 
-abbrev pub intake_of : List ℕ → Intake
+abbrev pub intake_of : List ℕ → Result ℕ ReadingError
 intake_of job = for_reading intake_answer job
 
 -- A group is four u16: EF, ED, ET, IRA. ET is in quarter hours.

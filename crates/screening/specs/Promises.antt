@@ -10,7 +10,7 @@ use Rattle.book.specs.Rates.{max_rate, rates_at}
 use Rattle.balance.specs.Chain.{Chain, chain_of}
 use Rattle.balance.specs.Exact.{numerators, numerator, denominator}
 use Rattle.balance.specs.Promises.{FactorPromises}
-use Rattle.reading.specs.Reading.{figure, unusable, whole, max_concentration, reading_unusable, concentration_too_high, whole_answer, whole_checked, intake_checked}
+use Rattle.reading.specs.Reading.{figure, unusable, whole, max_concentration, reading_unusable, concentration_too_high, whole_answer, intake_checked}
 use Rattle.reading.specs.Promises.{ReadingPromise}
 use Rattle.reading.specs.declared.amounts.Amount.{Amount}
 use Rattle.screening.specs.Job.{rate, rate_length, reading_of, for_reading, intake_of, book_of}
@@ -91,7 +91,7 @@ pub record Promises : Type 0 where
   -- and the grounds are those of the list, 7 and 8, of one amount and of a job's reading
   pub grounds_of_amount :
       (amount : Amount) →
-      whole_checked (whole_answer amount)
+      intake_checked (whole_answer amount)
       ≡ first_met (ground_of ReadingUnusable (unusable (figure amount)) ∷ ground_of ConcentrationTooHigh (ltb max_concentration (whole amount)) ∷ [])
   pub grounds_of_reading :
       (job : List ℕ) →

@@ -4,7 +4,7 @@ ghost use Rattle.std.specs.Prelude.{◌≡◌, Ok};
 ghost use Rattle.refusals.specs.Grounds.{first_met};
 ghost use Rattle.screening.specs.Admission.{admission_with, admission_of};
 
-use crate::check::{check_fields, concentration_in, intake_checked, intake_of};
+use crate::check::{check_fields, intake_of};
 use crate::fields::{JOB_LENGTH, criterion_of, rate_of};
 use book::check_book;
 use refusals::Refusal;
@@ -28,17 +28,15 @@ pub fn admit(job: &[u8]) -> Result<ScreeningInput, Refusal>
 }
 
 // The same for a job whose own fields pass, with its book.
-#[tactic(auto, using(refusals::proofs::FirstMet::in_turn))]
 fn admit_with(job: &[u8], book: &[u8]) -> Result<ScreeningInput, Refusal>
     requires { first_met (field_grounds job.now) ≡ Ok tt }
     ensures { result ≡ admission_with job.now book.now }
 {
-    let intake = intake_of(job);
-    intake_checked(intake)?;
+    let concentration = intake_of(job)?;
     check_book(book)?;
     Ok(ScreeningInput {
         by: criterion_of(job),
         rate: rate_of(job),
-        concentration: concentration_in(intake),
+        concentration,
     })
 }

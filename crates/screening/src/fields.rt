@@ -1,15 +1,15 @@
 // The fields of a job; past the end a byte reads as 0.
 ghost use Rattle.std.specs.Prelude.{◌≡◌, false, ◌≤◌};
-ghost use Rattle.reading.specs.Reading.{medium_of, reading_unusable};
+ghost use Rattle.reading.specs.Reading.{unit_of, medium_of, reading_unusable};
 ghost use Rattle.screening.specs.Job.{rate, kind, kind_of, medium, unit, zero_byte, target, attenuation};
 ghost use Rattle.screening.specs.Job.{reading_of, group_at, exposure_of, longest_job};
 ghost use Rattle.exposure.specs.Exposure.{exposure_out_of_range};
 ghost use Rattle.screening.specs.Screening.{criterion_of};
 
 use book::LONGEST_BOOK;
-use exposure::{Exposure, Group, Kind, totals_of};
+use exposure::{AcceptedExposure, Exposure, Group, Kind, totals_of};
 use numbers::{u8_at, u16_at, u32_at, u64_at};
-use reading::{Medium, Reading, bits_unusable, float, medium};
+use reading::{Medium, Reading, Unit, bits_unusable, float, medium, unit};
 use verdict::Criterion;
 
 // Where the fields stand, as specs/Job.antt has them.
@@ -61,13 +61,11 @@ pub(crate) fn kind_code(job: &[u8]) -> u8
 }
 
 // Kinds 0, 1; any other code is taken as 1, and the checks refuse it.
+#[tactic(auto, using(crate::proofs::CodesTaken::kind_taken))]
 pub(crate) fn kind_of(job: &[u8]) -> Kind
     ensures { result ≡ kind_of (kind job.now) }
 {
-    match kind_code(job) {
-        0 => Kind::Risk,
-        _ => Kind::Dose,
-    }
+    Kind::try_from(kind_code(job)).unwrap_or(Kind::Dose)
 }
 
 pub(crate) fn medium_code(job: &[u8]) -> u8
@@ -86,6 +84,12 @@ pub(crate) fn unit_code(job: &[u8]) -> u8
     ensures { result ≡ unit job.now }
 {
     u8_at(job, UNIT)
+}
+
+pub(crate) fn unit_of(job: &[u8]) -> Unit
+    ensures { result ≡ unit_of (unit job.now) }
+{
+    unit(unit_code(job))
 }
 
 pub(crate) fn zero_byte(job: &[u8]) -> u8
@@ -142,9 +146,11 @@ pub(crate) fn criterion_of(job: &[u8]) -> Criterion
     requires { exposure_out_of_range (exposure_of job.now) ≡ false }
     ensures { result ≡ criterion_of job.now }
 {
-    let exposure = exposure_of(job);
+    let accepted = AcceptedExposure {
+        exposure: exposure_of(job),
+    };
     let kind = kind_of(job);
-    let totals = totals_of(kind, exposure);
+    let totals = totals_of(kind, accepted);
     Criterion {
         kind,
         x: totals.x,

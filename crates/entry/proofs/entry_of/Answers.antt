@@ -6,8 +6,8 @@ use Rattle.entry.proofs.entry_of.Goals as goal
 
 pub returns-clause-answered : goal.returns-clause-answered
 returns-clause-answered c =
-    let share = c.share_of-share.ensures in
-    c.printed.ensures ∙ of_parts (omega arith) c.at_most_whole.ensures share.exponent share.digits
+    let share = c.share_of.ensures in
+    c.printed.ensures ∙ of_parts (omega arith) c.min.ensures share.exponent share.digits
 
 pub returns-clause-sound : goal.returns-clause-sound
 returns-clause-sound c = kept c.args.factor (returns-clause-answered c)

@@ -1,7 +1,7 @@
 -- The conversion of one figure at any multiplier: what the conversion's private functions answer. No public contract
 -- names these.
-use Rattle.std.specs.Prelude.{ℕ, ◌+◌, ◌-◌, ◌*◌, ◌/◌, ◌%◌, ◌^◌, min, cond, ltb, eqb, Float}
-use Rattle.reading.specs.declared.amounts.Whole.{Whole}
+use Rattle.std.specs.Prelude.{ℕ, ◌+◌, ◌-◌, ◌*◌, ◌/◌, ◌%◌, ◌^◌, min, cond, ltb, eqb, Float, Result, Ok, Err}
+use Rattle.reading.specs.declared.error.ReadingError.{ReadingError}
 use Rattle.reading.specs.Reading.{unusable, numerator_of, denominator_of, rounded_up, max_concentration}
 
 -- The exponent of a pattern whose sign bit is clear stands above 52 bits of fraction.
@@ -33,8 +33,8 @@ other_places bits = min most_places (too_large_exponent - 2 - (exponent_of bits 
 unfoldable pub converted : Float → ℕ → ℕ
 converted x multiplier = rounded_up (numerator_of x * multiplier) (denominator_of x)
 
-abbrev pub capped : ℕ → Whole
-capped number = cond (ltb max_concentration number) Whole.TooLarge (Whole.Number number)
+abbrev pub capped : ℕ → Result ℕ ReadingError
+capped number = cond (ltb max_concentration number) (Err ReadingError.TooLarge) (Ok number)
 
-abbrev pub converted_answer : Float → ℕ → Whole
-converted_answer x multiplier = cond (unusable x) Whole.Unusable (capped (converted x multiplier))
+abbrev pub converted_answer : Float → ℕ → Result ℕ ReadingError
+converted_answer x multiplier = cond (unusable x) (Err ReadingError.Unusable) (capped (converted x multiplier))
