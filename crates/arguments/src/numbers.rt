@@ -13,7 +13,7 @@ pub fn number_written(word: &[u8]) -> Option<u32>
     }
     let mut number: u32 = 0;
     for byte in word {
-        if *byte < b'0' || b'9' < *byte {
+        if !byte.is_ascii_digit() {
             return None;
         }
         number = with_digit(number, *byte - b'0');
