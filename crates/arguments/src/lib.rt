@@ -7,4 +7,4 @@ mod numbers;
 
 pub use ending::ended;
 pub use input::{first_bytes, read_file, read_input};
-pub use numbers::{number_written, read_numbers};
+pub use numbers::{number_written, read_number, read_numbers};

@@ -3,18 +3,11 @@
 // (u16), little-endian. The book follows.
 #![tactic(auto)]
 
-use anyhow::Result;
-use arguments::{ended, first_bytes};
+use arguments::ended;
 use numbers::u16_at;
-use records::{factors_case, read_body};
-use std::alloc::Global;
-use std::io::{Read, Write};
+use records::{Shape, answer_cases, factors_case};
+use std::io::Read;
 use std::process::ExitCode;
-
-// More cases than any recording has.
-const MOST: u32 = 100_000;
-
-const HEAD: usize = 8;
 
 // No recorded case has a longer list, and no recording more bytes.
 const MOST_PLACES: u16 = 20;
@@ -22,35 +15,23 @@ const MOST_PLACES: u16 = 20;
 const MOST_BYTES: u64 = 65_536;
 
 fn main(rt: HostRuntime) -> ExitCode {
-    let answered = answer_all(&rt);
+    let alloc = rt.alloc();
+    let mut input = rt.stdin().take(MOST_BYTES);
+    let answered = answer_cases(alloc, &mut input, &mut rt.stdout(), shape, |body| {
+        factors_case(alloc, body)
+    });
     ended(&rt, answered)
 }
 
-fn answer_all(rt: &HostRuntime) -> Result<()> {
-    let mut input = rt.stdin().take(MOST_BYTES);
-    for _ in 0..MOST {
-        let Some(body) = next_body(rt.alloc(), &mut input)? else {
-            break;
-        };
-        let text = factors_case(rt.alloc(), &body)?;
-        rt.stdout().write_all(&text)?;
+// None beyond the limits. The whole book has to be there.
+fn shape(head: &[u8]) -> Option<Shape> {
+    if MOST_PLACES < u16_at(head, 4) {
+        return None;
     }
-    Ok(())
-}
-
-// The body of the next case; none where there is none that is whole and within the limits.
-fn next_body<R: Read>(alloc: Global, input: &mut R) -> Result<Option<Vec<u8>>> {
-    let head = first_bytes(alloc, input.by_ref(), HEAD)?;
-    if head.len() < HEAD {
-        return Ok(None);
-    }
-    let book = usize::from(u16_at(&head, 6));
-    if MOST_PLACES < u16_at(&head, 4) {
-        return Ok(None);
-    }
-    let body = read_body(alloc, input, &head[..6], book)?;
-    if body.len() < 6 + book {
-        return Ok(None);
-    }
-    Ok(Some(body))
+    let book = usize::from(u16_at(head, 6));
+    Some(Shape {
+        begin: 6,
+        rest: book,
+        least: book,
+    })
 }

@@ -4,7 +4,7 @@
 mod lines;
 
 use anyhow::{Context, Result, bail};
-use arguments::{ended, read_file, read_numbers};
+use arguments::{ended, read_file, read_number, read_numbers};
 use balance::FactorAnswer;
 use book::{LONGEST_BOOK, MAX_MEMBERS};
 use lines::{write_factors, write_line, write_refused};
@@ -33,68 +33,61 @@ fn main(rt: HostRuntime) -> ExitCode {
 
 fn answer(rt: &HostRuntime) -> Result<()> {
     let words: Vec<String> = std::env::args(rt)?.collect(rt.alloc())?;
-    let every = is_every(&words);
-    if words.len() < 4 || every && words.len() != 6 {
-        bail!("{USAGE}");
-    }
-    let book = read_file(rt, words[1].as_str(), ENOUGH)?;
-    if every {
-        let period = read_numbers(rt, &words[2..4], WANTED).context("opening")?;
-        let turns = read_numbers(rt, &words[5..], WANTED_EVERY).context("opening")?;
-        return write_every(rt, &period, &turns, &book);
-    }
-    let given = &words[2..];
-    if MOST_NUMBERS < given.len() {
-        bail!("opening: more than 1,000 numbers");
-    }
-    let periods = read_numbers(rt, given, WANTED).context("opening")?;
-    write_end(rt, &periods, &book)
-}
-
-// Whether the word `every` stands after one period.
-fn is_every(words: &[String]) -> bool {
-    match words.get(4) {
-        Some(word) => word.as_str() == "every",
-        None => false,
+    match words.as_slice() {
+        [_, path, rate, minutes, word, every] if word.as_str() == "every" => {
+            let book = read_file(rt, path.as_str(), ENOUGH)?;
+            let rate = read_number(rate.as_str(), WANTED).context("opening")?;
+            let minutes = read_number(minutes.as_str(), WANTED).context("opening")?;
+            let every = read_number(every.as_str(), WANTED_EVERY).context("opening")?;
+            write_every(rt, rate, minutes, every, &book)
+        }
+        [_, _, _, _, word, ..] if word.as_str() == "every" => bail!("{USAGE}"),
+        [_, path, given @ ..] if 2 <= given.len() => {
+            let book = read_file(rt, path.as_str(), ENOUGH)?;
+            if MOST_NUMBERS < given.len() {
+                bail!("opening: more than 1,000 numbers");
+            }
+            let periods = read_numbers(rt, given, WANTED).context("opening")?;
+            write_after(rt, &periods, &book, |factors| write_factors(rt, factors))
+        }
+        _ => bail!("{USAGE}"),
     }
 }
 
-fn write_end(rt: &HostRuntime, periods: &[u32], book: &[u8]) -> Result<()> {
+// What is written of the factors after the periods, or that the call refuses them.
+fn write_after<F: FnOnce(&[u64]) -> Result<()>>(
+    rt: &HostRuntime,
+    periods: &[u32],
+    book: &[u8],
+    write: F,
+) -> Result<()>
+    requires { F.IsAlwaysCallable write }
+{
     let mut factors = [0u64; MAX_MEMBERS];
     match factors_after(periods, book, &mut factors) {
-        FactorAnswer::Filled(count) => write_factors(rt, &factors[..count]).context(UNWRITTEN),
+        FactorAnswer::Filled(count) => {
+            write(&factors[..count]).context("opening: the factors could not be written")
+        }
         FactorAnswer::Refused(refusal) => write_refused(rt, refusal_number(refusal)),
     }
 }
 
-const UNWRITTEN: &str = "opening: the factors could not be written";
-
 // The whole period is tried first. Where it is refused, that is all that is written; where it is not, no part of it is refused.
-fn write_every(rt: &HostRuntime, period: &[u32], turns: &[u32], book: &[u8]) -> Result<()> {
-    let (Some(rate), Some(minutes), Some(every)) = (period.get(0), period.get(1), turns.get(0))
-    else {
-        bail!("{USAGE}");
-    };
-    if *every == 0 {
+fn write_every(rt: &HostRuntime, rate: u32, minutes: u32, every: u32, book: &[u8]) -> Result<()> {
+    if every == 0 {
         bail!("opening: every 0: N is 1 or more");
     }
     let mut factors = [0u64; MAX_MEMBERS];
-    if let FactorAnswer::Refused(refusal) = factors_after(period, book, &mut factors) {
+    if let FactorAnswer::Refused(refusal) = factors_after(&[rate, minutes], book, &mut factors) {
         return write_refused(rt, refusal_number(refusal));
     }
-    for minute in 1..=*minutes {
-        if minute % *every == 0 {
-            write_minute(rt, *rate, minute, book)?;
-        }
+    for minute in (every..=minutes).step_by(every as usize) {
+        write_after(
+            rt,
+            &[rate, minute],
+            book,
+            |factors| write_line(rt, minute, factors),
+        )?;
     }
     Ok(())
-}
-
-// The line of the factors after so many minutes.
-fn write_minute(rt: &HostRuntime, rate: u32, minute: u32, book: &[u8]) -> Result<()> {
-    let mut factors = [0u64; MAX_MEMBERS];
-    match factors_after(&[rate, minute], book, &mut factors) {
-        FactorAnswer::Filled(count) => write_line(rt, minute, &factors[..count]).context(UNWRITTEN),
-        FactorAnswer::Refused(refusal) => write_refused(rt, refusal_number(refusal)),
-    }
 }

@@ -4,18 +4,10 @@
 // follow.
 #![tactic(auto)]
 
-use anyhow::Result;
-use arguments::{ended, first_bytes};
+use arguments::ended;
 use numbers::u16_at;
-use records::{opening_case, read_body};
-use std::alloc::Global;
-use std::io::{Read, Write};
+use records::{Shape, answer_cases, opening_case};
 use std::process::ExitCode;
-
-// More cases than any recording has.
-const MOST: u32 = 100_000;
-
-const HEAD: usize = 8;
 
 // No recorded case has a longer list, more numbers or a longer book.
 const MOST_PLACES: u16 = 20;
@@ -25,37 +17,24 @@ const MOST_NUMBERS: u16 = 100;
 const MOST_BOOK: u16 = 2_000;
 
 fn main(rt: HostRuntime) -> ExitCode {
-    let answered = answer_all(&rt);
+    let alloc = rt.alloc();
+    let answered = answer_cases(alloc, &mut rt.stdin(), &mut rt.stdout(), shape, |body| {
+        opening_case(alloc, body)
+    });
     ended(&rt, answered)
 }
 
-fn answer_all(rt: &HostRuntime) -> Result<()> {
-    let mut input = rt.stdin();
-    for _ in 0..MOST {
-        let Some(body) = next_body(rt.alloc(), &mut input)? else {
-            break;
-        };
-        let text = opening_case(rt.alloc(), &body)?;
-        rt.stdout().write_all(&text)?;
-    }
-    Ok(())
-}
-
-// The body of the next case; none where there is none that is whole and within the limits.
-fn next_body<R: Read>(alloc: Global, input: &mut R) -> Result<Option<Vec<u8>>> {
-    let head = first_bytes(alloc, input.by_ref(), HEAD)?;
-    if head.len() < HEAD {
-        return Ok(None);
-    }
-    let numbers = u16_at(&head, 2);
-    let book = u16_at(&head, 4);
-    if MOST_PLACES < u16_at(&head, 0) || MOST_NUMBERS < numbers || MOST_BOOK < book {
-        return Ok(None);
+// None beyond the limits. All of the numbers and the book have to be there.
+fn shape(head: &[u8]) -> Option<Shape> {
+    let numbers = u16_at(head, 2);
+    let book = u16_at(head, 4);
+    if MOST_PLACES < u16_at(head, 0) || MOST_NUMBERS < numbers || MOST_BOOK < book {
+        return None;
     }
     let rest = 4 * usize::from(numbers) + usize::from(book);
-    let body = read_body(alloc, input, &head[..4], rest)?;
-    if body.len() < 4 + rest {
-        return Ok(None);
-    }
-    Ok(Some(body))
+    Some(Shape {
+        begin: 4,
+        rest,
+        least: rest,
+    })
 }

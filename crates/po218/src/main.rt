@@ -1,8 +1,8 @@
 // The Po-218 column of source 000's radon table A-3, worked out by the factor call and printed as the table prints it.
 #![tactic(auto)]
 
-use std::io;
 use std::io::Write;
+use std::{fmt, io};
 use tables::SOURCE_RATES;
 
 // Radon, which is held, and Po-218: half-life 186,000,000,000 ns (3.10 minutes), fed wholly by the parent.
@@ -21,24 +21,28 @@ fn factor_at(v: u32) -> u64 {
 
 fn main(rt: HostRuntime) -> io::Result<()> {
     for v in SOURCE_RATES {
-        write_rate(&rt, v)?;
-        rt.stdout().write_all(b" ")?;
+        print!(rt; "{} ", Rate(v))?;
         rt.stdout().write_all(&entry::entry_of(factor_at(v)))?;
         println!(rt; "")?;
     }
     Ok(())
 }
 
-// A rate in air changes per hour, without zeros at its end.
-fn write_rate(rt: &HostRuntime, v: u32) -> io::Result<()> {
-    let whole = v / 100;
-    let tenths = v % 100 / 10;
-    let hundredths = v % 10;
-    if hundredths != 0 {
-        print!(rt; "{whole}.{tenths}{hundredths}")
-    } else if tenths != 0 {
-        print!(rt; "{whole}.{tenths}")
-    } else {
-        print!(rt; "{whole}")
+// A rate in air changes per hour, printed without zeros at its end.
+#[derive(Drop)]
+struct Rate(u32);
+
+impl fmt::Display for Rate {
+    fn fmt<W: fmt::Write>(&self, f: &mut fmt::Formatter<W>) -> fmt::Result {
+        let whole = self.0 / 100;
+        let tenths = self.0 % 100 / 10;
+        let hundredths = self.0 % 10;
+        if hundredths != 0 {
+            write!(f, "{whole}.{tenths}{hundredths}")
+        } else if tenths != 0 {
+            write!(f, "{whole}.{tenths}")
+        } else {
+            write!(f, "{whole}")
+        }
     }
 }

@@ -1,43 +1,34 @@
 // Answers every recorded case of standard input, one after the other, each as soon as it has it.
 #![tactic(auto)]
 
+mod kind;
 mod record;
 
-use anyhow::{Result, bail};
 use arguments::ended;
-use record::next_record;
-use records::{factors_case, lowest_case, opening_case, report_case, table_case};
-use std::alloc::Global;
-use std::io::Write;
+use kind::Kind;
+use record::{Record, next_record};
+use records::{answer_all, factors_case, lowest_case, opening_case, report_case, table_case};
+use std::alloc::{AllocError, Global};
 use std::process::ExitCode;
 
 fn main(rt: HostRuntime) -> ExitCode {
-    let answered = answer_all(&rt);
+    let alloc = rt.alloc();
+    let answered = answer_all(
+        &mut rt.stdin(),
+        &mut rt.stdout(),
+        u64::MAX,
+        |input| next_record(alloc, input),
+        |record| Ok(text_of(alloc, &record)?),
+    );
     ended(&rt, answered)
 }
 
-fn answer_all(rt: &HostRuntime) -> Result<()> {
-    let mut input = rt.stdin();
-    for _ in 0..u64::MAX {
-        let Some(record) = next_record(rt.alloc(), &mut input)? else {
-            return Ok(());
-        };
-        let text = text_of(rt.alloc(), record.kind, &record.body)?;
-        rt.stdout().write_all(&text)?;
+fn text_of(alloc: Global, record: &Record) -> Result<Vec<u8>, AllocError> {
+    match record.kind {
+        Kind::Report => report_case(alloc, &record.body),
+        Kind::Lowest => lowest_case(alloc, &record.body),
+        Kind::Factors => factors_case(alloc, &record.body),
+        Kind::Table => table_case(alloc, &record.body),
+        Kind::Opening => opening_case(alloc, &record.body),
     }
-    Ok(())
-}
-
-// Kinds: 0 a whole job, as `screen` writes it; 1 a job, as `fan` writes it; 2 the factor call; 3 the table call;
-// 4 the call for periods.
-fn text_of(alloc: Global, kind: u8, body: &[u8]) -> Result<Vec<u8>> {
-    let text = match kind {
-        0 => report_case(alloc, body)?,
-        1 => lowest_case(alloc, body)?,
-        2 => factors_case(alloc, body)?,
-        3 => table_case(alloc, body)?,
-        4 => opening_case(alloc, body)?,
-        _ => bail!("recorded: no case is of kind {kind}"),
-    };
-    Ok(text)
 }

@@ -1,3 +1,4 @@
+pub mod Writing
+pub mod Taken
 pub mod Turns
-pub mod Bodies
 pub mod Consumed

@@ -21,8 +21,8 @@ pub(crate) fn push_number(text: &mut Vec<u8>, word: &[u8], n: u64) -> Result<(),
 pub(crate) fn push_places(text: &mut Vec<u8>, list: &[u64]) -> Result<(), AllocError>
     ensures { OnOk result (text.new.items ≡ text.old.items ++ places list.now) }
 {
-    for i in 0..list.len() {
-        push_number(text, b" ", list[i])?;
+    for n in list {
+        push_number(text, b" ", *n)?;
     }
     Ok(())
 }

@@ -3,18 +3,10 @@
 // book has (u16), little-endian. The rates (u32 each) and the book follow.
 #![tactic(auto)]
 
-use anyhow::Result;
-use arguments::{ended, first_bytes};
+use arguments::ended;
 use numbers::{u16_at, u32_at};
-use records::{read_body, table_case};
-use std::alloc::Global;
-use std::io::{Read, Write};
+use records::{Shape, answer_cases, table_case};
 use std::process::ExitCode;
-
-// More cases than any recording has.
-const MOST: u32 = 100_000;
-
-const HEAD: usize = 8;
 
 // No recorded case has a longer buffer, more rates or a longer book.
 const MOST_ROOM: u32 = 65_536;
@@ -24,34 +16,23 @@ const MOST_RATES: u16 = 300;
 const MOST_BOOK: u16 = 2_000;
 
 fn main(rt: HostRuntime) -> ExitCode {
-    let answered = answer_all(&rt);
+    let alloc = rt.alloc();
+    let answered = answer_cases(alloc, &mut rt.stdin(), &mut rt.stdout(), shape, |body| {
+        table_case(alloc, body)
+    });
     ended(&rt, answered)
 }
 
-fn answer_all(rt: &HostRuntime) -> Result<()> {
-    let mut input = rt.stdin();
-    for _ in 0..MOST {
-        let Some(body) = next_body(rt.alloc(), &mut input)? else {
-            break;
-        };
-        let text = table_case(rt.alloc(), &body)?;
-        rt.stdout().write_all(&text)?;
+// None beyond the limits. A body that is cut off goes as far as it does.
+fn shape(head: &[u8]) -> Option<Shape> {
+    let rates = u16_at(head, 4);
+    let book = u16_at(head, 6);
+    if MOST_ROOM < u32_at(head, 0) || MOST_RATES < rates || MOST_BOOK < book {
+        return None;
     }
-    Ok(())
-}
-
-// The body of the next case, as far as it goes where it is cut off; none where there is none, or one beyond the limits.
-fn next_body<R: Read>(alloc: Global, input: &mut R) -> Result<Option<Vec<u8>>> {
-    let head = first_bytes(alloc, input.by_ref(), HEAD)?;
-    if head.len() < HEAD {
-        return Ok(None);
-    }
-    let rates = u16_at(&head, 4);
-    let book = u16_at(&head, 6);
-    if MOST_ROOM < u32_at(&head, 0) || MOST_RATES < rates || MOST_BOOK < book {
-        return Ok(None);
-    }
-    let rest = 4 * usize::from(rates) + usize::from(book);
-    let body = read_body(alloc, input, &head[..6], rest)?;
-    Ok(Some(body))
+    Some(Shape {
+        begin: 6,
+        rest: (4 * rates + book) as usize,
+        least: 0,
+    })
 }

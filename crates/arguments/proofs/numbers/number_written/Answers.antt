@@ -8,9 +8,10 @@ use Rattle.arguments.proofs.numbers.number_written.Goals as goal
 pub loop-byte-preserved : goal.loop-byte-preserved
 loop-byte-preserved c =
     let loop = c.loop-byte in
+    let digit = c.if-not-is_ascii_digit.ensures.cases in
     record {
       fits = omega arith;
-      digits = loop.invariant.digits ∙ digit_passed c.args.word.now loop.byte-index c.loop-byte-test.true c.if-byte-lt48.false c.if-byte-gt57.false;
+      digits = loop.invariant.digits ∙ digit_passed c.args.word.now loop.byte-index c.loop-byte-test.true digit.0 digit.1;
       value = loop.invariant.value ∙ value_passed c.args.word.now loop.byte-index loop.number c.with_digit-number.result c.loop-byte-test.true c.with_digit-number.ensures;
     }
 
