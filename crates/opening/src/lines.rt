@@ -21,8 +21,3 @@ pub(crate) fn write_line(rt: &HostRuntime, minute: u32, factors: &[u64]) -> Resu
     println!(rt; "")?;
     Ok(())
 }
-
-pub(crate) fn write_refused(rt: &HostRuntime, number: u64) -> Result<()> {
-    println!(rt; "refused {number}")?;
-    Ok(())
-}

@@ -5,11 +5,9 @@ mod lines;
 
 use anyhow::{Context, Result, bail};
 use arguments::{ended, read_file, read_number, read_numbers};
-use balance::FactorAnswer;
 use book::{LONGEST_BOOK, MAX_MEMBERS};
-use lines::{write_factors, write_line, write_refused};
+use lines::{write_factors, write_line};
 use minutes::factors_after;
-use refusals::refusal_number;
 use std::process::ExitCode;
 
 // One byte more than the longest book that can be accepted: a longer one is refused by its counts or its length, as its first
@@ -65,10 +63,10 @@ fn write_after<F: FnOnce(&[u64]) -> Result<()>>(
 {
     let mut factors = [0u64; MAX_MEMBERS];
     match factors_after(periods, book, &mut factors) {
-        FactorAnswer::Filled(count) => {
+        Ok(count) => {
             write(&factors[..count]).context("opening: the factors could not be written")
         }
-        FactorAnswer::Refused(refusal) => write_refused(rt, refusal_number(refusal)),
+        Err(refusal) => Ok(rt.println(refusal)?),
     }
 }
 
@@ -78,8 +76,8 @@ fn write_every(rt: &HostRuntime, rate: u32, minutes: u32, every: u32, book: &[u8
         bail!("opening: every 0: N is 1 or more");
     }
     let mut factors = [0u64; MAX_MEMBERS];
-    if let FactorAnswer::Refused(refusal) = factors_after(&[rate, minutes], book, &mut factors) {
-        return write_refused(rt, refusal_number(refusal));
+    if let Err(refusal) = factors_after(&[rate, minutes], book, &mut factors) {
+        return Ok(rt.println(refusal)?);
     }
     for minute in (every..=minutes).step_by(every as usize) {
         write_after(

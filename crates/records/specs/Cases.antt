@@ -64,13 +64,14 @@ unfoldable pub places : List ℕ → List ℕ
 places [] = []
 places (place ∷ list) = ascii " " ++ decimal place ++ places list
 
--- One line: how many places were filled or the refusal's number, a colon, and every place of the list after the call.
-abbrev pub counted : Result ℕ Refusal → List ℕ
-counted (Ok n) = ascii "filled " ++ decimal n
-counted (Err refusal) = ascii "refused " ++ decimal (refusal_number refusal)
+-- How many places were filled, or how many bytes written, after a word; or the refusal's number.
+abbrev pub answered : List ℕ → Result ℕ Refusal → List ℕ
+answered word (Ok n) = word ++ decimal n
+answered word (Err refusal) = ascii "refused " ++ decimal (refusal_number refusal)
 
+-- One line: how many places were filled or the refusal's number, a colon, and every place of the list after the call.
 abbrev pub list_line : Result ℕ Refusal → List ℕ → List ℕ
-list_line answer list = counted answer ++ ascii " :" ++ places list ++ line_feed
+list_line answer list = answered (ascii "filled ") answer ++ ascii " :" ++ places list ++ line_feed
 
 -- The factor call: the rate (u32), how many places the lent list has (u16), the book.
 abbrev pub factors_case : List ℕ → List ℕ
@@ -89,17 +90,12 @@ opening_case body =
     let list = lent_list (u16_at body 0) in
     list_line (periods_answer periods book (length list)) (periods_list periods book list)
 
--- Two lines: the text's length or the refusal's number; and every byte of the buffer after the call.
-abbrev pub measured : Result ℕ Refusal → List ℕ
-measured (Ok n) = numbered (ascii "written ") n
-measured (Err refusal) = numbered (ascii "refused ") (refusal_number refusal)
-
 -- The table call: how many bytes the lent buffer has (u32), how many rates there are (u16), the rates (u32 each), the
--- book.
+-- book. Two lines: the text's length or the refusal's number; and every byte of the buffer after the call.
 abbrev pub table_case : List ℕ → List ℕ
 table_case body =
     let count = u16_at body 4 in
     let rates = numbers_at body 6 count in
     let book = drop (6 + 4 * count) body in
     let buffer = lent_buffer (u32_at body 0) in
-    measured (table_answer rates book (length buffer)) ++ table_buffer rates book buffer ++ line_feed
+    answered (ascii "written ") (table_answer rates book (length buffer)) ++ line_feed ++ table_buffer rates book buffer ++ line_feed

@@ -2,16 +2,16 @@
 ghost use Rattle.std.specs.Prelude.{◌≡◌, ◌<◌, ◌++◌, drop, length, IfOk, OnOk};
 ghost use Rattle.report.specs.Report.{report_of};
 ghost use Rattle.report.specs.RateLine.{rate_line};
-ghost use Rattle.records.specs.Cases.{factors_case, opening_case, table_case, numbers_at, list_line, counted, measured};
+ghost use Rattle.records.specs.Cases.{factors_case, opening_case, table_case, numbers_at, list_line, answered};
 
 use super::words::{push_number, push_places};
-use balance::{FactorAnswer, factors};
+use balance::factors;
 use minutes::factors_after;
 use numbers::{u16_at, u32_at};
-use refusals::refusal_number;
+use refusals::Refusal;
 use report::{RATE_LINE_ROOM, REPORT_ROOM, rate_line, whole_report};
 use std::alloc::{AllocError, Global};
-use tables::{TableAnswer, tabulate};
+use tables::tabulate;
 
 // What every place of a lent list, or of a lent buffer, holds before a call.
 const PLACE: u64 = 7;
@@ -66,39 +66,31 @@ pub fn table_case(alloc: Global, body: &[u8]) -> Result<Vec<u8>, AllocError>
     let rates = numbers(alloc, body, 6, count)?;
     let answer = tabulate(&rates, rest(body, 6 + 4 * usize::from(count)), &mut buffer);
     let mut text = Vec::new(alloc);
-    push_measured(&mut text, answer)?;
+    push_answer(&mut text, b"written ", answer)?;
+    text.extend_from_slice(b"\n")?;
     text.extend_from_slice(&buffer)?;
     text.extend_from_slice(b"\n")?;
     Ok(text)
 }
 
-fn push_measured(text: &mut Vec<u8>, answer: TableAnswer) -> Result<(), AllocError>
-    ensures { OnOk result (text.new.items ≡ text.old.items ++ measured answer) }
-{
-    match answer {
-        TableAnswer::Written(length) => push_number(text, b"written ", length as u64)?,
-        TableAnswer::Refused(refusal) => push_number(text, b"refused ", refusal_number(refusal))?,
-    }
-    text.extend_from_slice(b"\n")
-}
-
-fn written(alloc: Global, answer: FactorAnswer, list: &[u64]) -> Result<Vec<u8>, AllocError>
+fn written(alloc: Global, answer: Result<usize, Refusal>, list: &[u64]) -> Result<Vec<u8>, AllocError>
     ensures { IfOk result (λ text. text.items ≡ list_line answer list.now) }
 {
     let mut text = Vec::new(alloc);
-    push_counted(&mut text, answer)?;
+    push_answer(&mut text, b"filled ", answer)?;
     text.extend_from_slice(b" :")?;
     push_places(&mut text, list)?;
     text.extend_from_slice(b"\n")?;
     Ok(text)
 }
 
-fn push_counted(text: &mut Vec<u8>, answer: FactorAnswer) -> Result<(), AllocError>
-    ensures { OnOk result (text.new.items ≡ text.old.items ++ counted answer) }
+// A count or a length after a word, or the refusal.
+fn push_answer(text: &mut Vec<u8>, word: &[u8], answer: Result<usize, Refusal>) -> Result<(), AllocError>
+    ensures { OnOk result (text.new.items ≡ text.old.items ++ answered word.now answer) }
 {
     match answer {
-        FactorAnswer::Filled(count) => push_number(text, b"filled ", count as u64),
-        FactorAnswer::Refused(refusal) => push_number(text, b"refused ", refusal_number(refusal)),
+        Ok(n) => push_number(text, word, n as u64),
+        Err(refusal) => push_number(text, b"refused ", u64::from(refusal)),
     }
 }
 

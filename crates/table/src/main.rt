@@ -5,10 +5,9 @@
 use anyhow::{Context, Result, bail};
 use arguments::{ended, read_file, read_numbers};
 use book::LONGEST_BOOK;
-use refusals::refusal_number;
 use std::io::Write;
 use std::process::ExitCode;
-use tables::{SOURCE_RATES, TABLE_ROOM, TableAnswer, tabulate};
+use tables::{SOURCE_RATES, TABLE_ROOM, tabulate};
 
 // One byte more than the longest book that can be accepted: a longer one is refused as its first bytes are.
 const ENOUGH: usize = LONGEST_BOOK + 1;
@@ -44,14 +43,11 @@ fn answer(rt: &HostRuntime) -> Result<()> {
 fn write_table(rt: &HostRuntime, rates: &[u32], book: &[u8]) -> Result<()> {
     let mut buffer = [0u8; TABLE_ROOM];
     match tabulate(rates, book, &mut buffer) {
-        TableAnswer::Written(length) => rt
+        Ok(length) => rt
             .stdout()
             .write_all(&buffer[..length])
             .context("table: the table could not be written")?,
-        TableAnswer::Refused(refusal) => {
-            let number = refusal_number(refusal);
-            println!(rt; "refused {number}")?;
-        }
+        Err(refusal) => rt.println(refusal)?,
     }
     Ok(())
 }

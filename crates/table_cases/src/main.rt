@@ -32,7 +32,7 @@ fn shape(head: &[u8]) -> Option<Shape> {
     }
     Some(Shape {
         begin: 6,
-        rest: (4 * rates + book) as usize,
+        rest: 4 * usize::from(rates) + usize::from(book),
         least: 0,
     })
 }
