@@ -2,6 +2,7 @@
 // factors, wherever these come from.
 #![tactic(auto)]
 
+mod total;
 mod verdict;
 mod weighted;
 mod working;

@@ -59,6 +59,7 @@ pub struct Judgement {
 }
 
 // The place of the inhalation coefficient among a member's five numbers; the submersion coefficient follows it.
+// It stays a number: the book's table has all members' numbers in one array, and a place is what that is read at.
 pub(crate) fn first_place(kind: Kind) -> usize
     ensures { (result ≡ inhalation kind) × (result + 1 ≡ submersion kind) × (result ≤ 3) }
 {
@@ -118,6 +119,7 @@ fn level_of(bound: Wide, high_at_one: Wide) -> u32
 }
 
 // Low and High at one mBq/m³, and B, from the members' numbers and factors.
+// These stay parameters: a struct that lends them has two values in an `ensures`, so each clause says `of.entry.count`.
 pub fn sums_of(
     by: Criterion,
     count: usize,

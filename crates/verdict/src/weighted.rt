@@ -5,6 +5,7 @@ ghost use Rattle.balance.specs.Balance.{G};
 ghost use Rattle.numbers.specs.Sums.{sum_below};
 ghost use Rattle.verdict.specs.HeldNumbers.{term_in};
 
+use crate::total::sum_of;
 use crate::verdict::{Criterion, first_place};
 use balance::GRAINS;
 use book::{COEFFICIENTS, MAX_MEMBERS};
@@ -47,17 +48,10 @@ pub(crate) fn weighted_sum(
     ensures exact { result ≡ sum_below count (term_in by coefficients.now factors.now margin) }
     ensures small { result ≤ 2 ^ 117 }
 {
-    let kind = by.kind;
-    let x = by.x;
-    let y = by.y;
-    let first = first_place(kind);
-    let mut total = Wide::from(0);
-    for i in 0..count {
+    let first = first_place(by.kind);
+    sum_of(0, count, |i| {
         let at = COEFFICIENTS * i + first;
         let factor = raised(factors[i], margin * i as u64);
-        let term = weighted(factor, coefficients[at], coefficients[at + 1], x, y);
-        let next = total.wrapping_add(term);
-        total = next;
-    }
-    total
+        weighted(factor, coefficients[at], coefficients[at + 1], by.x, by.y)
+    })
 }

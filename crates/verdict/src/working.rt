@@ -4,6 +4,7 @@ ghost use Rattle.book.specs.Limits.{max_members};
 ghost use Rattle.verdict.specs.WorkingLevels.{alpha_sum, working_levels};
 ghost use Rattle.verdict.specs.HeldNumbers.{number_in, WorkingInRange};
 
+use crate::total::sum_of;
 use book::{COEFFICIENTS, MAX_MEMBERS};
 use wide::Wide;
 
@@ -35,13 +36,11 @@ pub fn alpha_sum(
     ensures exact { result ≡ alpha_sum count (number_in coefficients.now) (λ i. get_or factors.now i 0) }
     ensures small { result ≤ 2 ^ 117 }
 {
-    let mut total = Wide::from(0);
-    for i in 1..count {
-        let term = alpha_term(factors[i], coefficients[COEFFICIENTS * i + ALPHA]);
-        let next = total.wrapping_add(term);
-        total = next;
-    }
-    total
+    sum_of(
+        1,
+        count,
+        |i| alpha_term(factors[i], coefficients[COEFFICIENTS * i + ALPHA]),
+    )
 }
 
 fn alpha_term(factor: u64, weight: u32) -> Wide

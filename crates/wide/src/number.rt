@@ -4,7 +4,7 @@ ghost use Rattle.std.specs.Prelude.{◌≡◌};
 use crate::columns::{low, upper};
 use std::marker::Model;
 
-// In six limbs of 32 bits. The highest comes first, so that the order of the arrays is that of the numbers.
+// In six limbs of 32 bits, the highest first, so that the first limbs that differ order two numbers.
 #[derive(Clone, Copy)]
 pub struct Wide {
     pub(crate) limbs: [u32; 6],

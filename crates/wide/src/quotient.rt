@@ -17,6 +17,7 @@ impl Wide {
     fn multiple_at_most(self, k: u32, a: Wide) -> bool
         ensures { result ≡ nat_le (k * self) a }
     {
+        // Read for the proof alone: six limbs hold less than 2^192, so a product with a carry is more.
         let _ = &a.limbs;
         let product = self.exact_multiple(k);
         product.carry == 0 && product.number <= a
