@@ -103,16 +103,13 @@ fn push_counted(text: &mut Vec<u8>, answer: FactorAnswer) -> Result<(), AllocErr
 }
 
 // So many numbers of four bytes each from an offset on.
-#[tactic(auto, using(crate::proofs::Turns::turns))]
 fn numbers(alloc: Global, body: &[u8], offset: u32, count: u64) -> Result<Vec<u32>, AllocError>
     requires within { (offset < 8) × (count < 65536) }
     ensures { IfOk result (λ list. list.items ≡ numbers_at body.now offset count) }
 {
-    let mut list = Vec::new(alloc);
-    for i in 0..count as u32 {
-        list.push(u32_at(body, offset + 4 * i) as u32)?;
-    }
-    Ok(list)
+    (0..count as u32)
+        .map(|i| u32_at(body, offset + 4 * i) as u32)
+        .collect(alloc)
 }
 
 // The bytes from an offset on; none where there are fewer.
