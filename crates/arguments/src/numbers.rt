@@ -4,8 +4,8 @@ ghost use Rattle.arguments.specs.Digits.{highest, number_written};
 
 use anyhow::{Result, bail};
 
-// The number that a word writes in digits, or none where it is no such word. Not std's `parse`, which takes a sign and refuses a
-// number that is too high; and a `for`, which says in as few lines what `try_fold` would say of a byte that is no digit.
+// The number that a word writes in digits, or none where it is no such word. Not std's `parse`, which takes a sign and
+// refuses a number that is too high.
 pub fn number_written(word: &[u8]) -> Option<u32>
     ensures { result ≡ number_written word.now }
 {
@@ -31,7 +31,8 @@ fn with_digit(number: u32, digit: u8) -> u32
 
 // The number that a word writes; where it writes none, that is told, with what is wanted.
 pub fn read_number(word: &str, wanted: &str) -> Result<u32>
-    ensures { MatchResult result (λ number. number_written word.now ≡ Some number) (λ _. number_written word.now ≡ None) }
+    ensures { MatchResult result (λ number. number_written word.now ≡ Some number)
+        (λ _. number_written word.now ≡ None) }
 {
     match number_written(word.as_bytes()) {
         Some(number) => Ok(number),
@@ -39,9 +40,11 @@ pub fn read_number(word: &str, wanted: &str) -> Result<u32>
     }
 }
 
-// The numbers that the words write; the first that writes none is told, with what is wanted.
+// The numbers that the words write; the first that writes none is told, with what is wanted. A `for`: no lemma of std
+// says which list `try_collect` makes.
 pub fn read_numbers(rt: &HostRuntime, words: &[String], wanted: &str) -> Result<Vec<u32>>
-    ensures { IfOk result (λ numbers. map Some numbers.items ≡ map (λ word. number_written (string_bytes word)) words.now) }
+    ensures { IfOk result (λ numbers.
+        map Some numbers.items ≡ map (λ word. number_written (string_bytes word)) words.now) }
 {
     let mut numbers = Vec::new(rt.alloc());
     for word in words {

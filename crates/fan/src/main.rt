@@ -17,6 +17,7 @@ fn main(rt: HostRuntime) -> ExitCode {
     ended(&rt, answered)
 }
 
+// Not one function with `screen`: the check proves no bound `FnOnce` that names a const parameter, as the room is.
 fn answer(rt: &HostRuntime) -> Result<()> {
     let job = read_input(rt, "fan FILE, or fan < FILE", ENOUGH)?;
     let mut buffer = [0u8; RATE_LINE_ROOM];

@@ -1,4 +1,5 @@
-// Writes the factors of the chain book in a file at the end of periods of airing, or a line every so many minutes of one period.
+// Writes the factors of the chain book in a file at the end of periods of airing, or a line every so many minutes of
+// one period.
 #![tactic(auto)]
 
 mod lines;
@@ -10,8 +11,8 @@ use lines::{write_factors, write_line};
 use minutes::factors_after;
 use std::process::ExitCode;
 
-// One byte more than the longest book that can be accepted: a longer one is refused by its counts or its length, as its first
-// bytes are.
+// One byte more than the longest book that can be accepted: a longer one is refused by its counts or its length, as its
+// first bytes are.
 const ENOUGH: usize = LONGEST_BOOK + 1;
 
 // More than the library takes, so that it is the library that refuses a list that is too long.
@@ -70,7 +71,8 @@ fn write_after<F: FnOnce(&[u64]) -> Result<()>>(
     }
 }
 
-// The whole period is tried first. Where it is refused, that is all that is written; where it is not, no part of it is refused.
+// The whole period is tried first. Where it is refused, that is all that is written; where it is not, no part of it is
+// refused.
 fn write_every(rt: &HostRuntime, rate: u32, minutes: u32, every: u32, book: &[u8]) -> Result<()> {
     if every == 0 {
         bail!("opening: every 0: N is 1 or more");

@@ -13,8 +13,8 @@ pub(crate) struct Record {
     pub body: Vec<u8>,
 }
 
-// The next case, or none at the end of the input. One that is cut short is an error, and so is one of no kind, which is told
-// only where it is whole.
+// The next case, or none at the end of the input. One that is cut short is an error, and so is one of no kind, which is
+// told only where it is whole.
 pub(crate) fn next_record<R: Read>(alloc: Global, input: &mut R) -> Result<Option<Record>> {
     let mut head = [0u8; HEAD];
     if input.read(&mut head[..1])? == 0 {

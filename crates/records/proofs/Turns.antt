@@ -1,6 +1,8 @@
--- What a turn of a loop adds: a number that is read, and a place that is written.
-use Rattle.std.proofs.Common.{◌≡◌, refl, sym, ◌∙◌, ℕ, ◌+◌, ◌*◌, ◌<◌, ◌≤◌, List, [], ◌∷◌, ◌++◌, length, drop, append-nil}
+-- The numbers that are read one after the other, and what a turn of a loop adds: a place that is written.
+use Rattle.std.proofs.Common.{◌≡◌, refl, sym, ap, subst, ◌∙◌, ℕ, zero, suc, map, arith, ◌+◌, ◌*◌, ◌<◌, ◌≤◌, List, [], ◌∷◌, ◌++◌, length, drop, append-nil}
 use Rattle.std.proofs.lemmas.List.{append_assoc}
+use Rattle.std.specs.List.{range_with_len}
+use Rattle.std.proofs.lemmas.List.FromFn.{map-range_with_len_more}
 use lib.ListN.{get_or, drop_of_length-le}
 use lib.Seq.{drop-cons}
 use native.Mathlib.Numerals.{add-one}
@@ -9,15 +11,15 @@ use Rattle.book.specs.Held.{up_to}
 use Rattle.text.specs.Words.{ascii, decimal}
 use Rattle.records.specs.Cases.{numbers_at, places}
 
-pub numbers_none : (body : List ℕ) (offset : ℕ) → numbers_at body offset 0 ≡ []
+pub numbers_mapped :
+    (body : List ℕ) (offset count : ℕ) → map (λ i. u32_at body (offset + 4 * i)) (range_with_len 0 count) ≡ numbers_at body offset count
 unfolding up_to
-numbers_none body offset = refl
-
-pub numbers_next :
-    (body : List ℕ) (offset i : ℕ) →
-    numbers_at body offset (i + 1) ≡ numbers_at body offset i ++ (u32_at body (offset + 4 * i) ∷ [])
-unfolding up_to
-numbers_next body offset i = rw (add-one i) refl
+numbers_mapped body offset zero = refl
+numbers_mapped body offset (suc n) =
+    let at = λ (i : ℕ). u32_at body (offset + 4 * i) in
+    let more : map at (range_with_len 0 (suc n)) ≡ map at (range_with_len 0 n) ++ (at n ∷ []) =
+    subst (λ k. map at (range_with_len 0 k) ≡ map at (range_with_len 0 n) ++ (at n ∷ [])) (add-one n) (map-range_with_len_more at 0 n n (omega arith)) in
+    more ∙ ap (λ l. l ++ (at n ∷ [])) (numbers_mapped body offset n)
 
 pub places_next :
     (list : List ℕ) (i : ℕ) → i < length list →
@@ -41,5 +43,3 @@ places_written old list i l e ahead =
 pub places_all :
     {whole : List ℕ} (text list : List ℕ) (i : ℕ) → length list ≤ i → text ++ places (drop i list) ≡ whole → text ≡ whole
 places_all text list i past ahead = sym (append-nil text) ∙ rw (sym (places_done list i past)) ahead
-
-pub ruleset turns = (numbers_none, numbers_next)

@@ -54,7 +54,8 @@ pub fn answer_records<R: Read, W: Write, F: Fn(&[u8]) -> Result<Vec<u8>, AllocEr
     requires { F.IsAlwaysCallable answer }
     ensures { OnOk result ((text : List ℕ)
         × AnsweredFrom (IsNextRecord ROOM)
-        (λ body text. (v : _) × FnReturnsAt F.Fn answer body (Ok v) × (vec_items v ≡ text)) MOST (R.remaining input.old) text
+        (λ body text. (v : _) × FnReturnsAt F.Fn answer body (Ok v) × (vec_items v ≡ text))
+        MOST (R.remaining input.old) text
         × Appends (W.contents output.old) (W.contents output.new) text) }
 {
     answer_all(
@@ -81,7 +82,8 @@ where
     requires answer { F.IsAlwaysCallable answer }
     ensures { OnOk result ((text : List ℕ)
         × AnsweredFrom (IsNextCase (FnReturnsAt S.Fn shape))
-        (λ body text. (v : _) × FnReturnsAt F.Fn answer body (Ok v) × (vec_items v ≡ text)) MOST (R.remaining input.old) text
+        (λ body text. (v : _) × FnReturnsAt F.Fn answer body (Ok v) × (vec_items v ≡ text))
+        MOST (R.remaining input.old) text
         × Appends (W.contents output.old) (W.contents output.new) text) }
 {
     answer_all(
@@ -91,4 +93,36 @@ where
         |input| Ok(read_case(alloc, input, &shape)?),
         |body: Vec<u8>| Ok(answer(&body)?),
     )
+}
+
+#[cfg(test)]
+mod tests {
+    use super::*;
+
+    #[test]
+    fn answers_each_case_in_turn(rt: HostRuntime) {
+        let alloc = rt.alloc();
+        let mut records: &[u8] = &[2, 0, b'a', b'b', 0, 0, 1, 0, b'c', 9];
+        let mut output = Vec::new(alloc);
+        let answered = answer_records(alloc, &mut records, &mut output, |record| {
+            Vec::from_slice(alloc, record)
+        });
+        assert!(rt; answered.is_ok());
+        assert_eq!(rt; output.as_slice(), b"abc".as_slice());
+
+        let mut cases: &[u8] = b"12345678ab12345678c";
+        let mut output = Vec::new(alloc);
+        let shape = |_head: &[u8]| {
+            Some(Shape {
+                begin: 1,
+                rest: 2,
+                least: 2,
+            })
+        };
+        let answered = answer_cases(alloc, &mut cases, &mut output, shape, |body| {
+            Vec::from_slice(alloc, body)
+        });
+        assert!(rt; answered.is_ok());
+        assert_eq!(rt; output.as_slice(), b"1ab".as_slice());
+    }
 }

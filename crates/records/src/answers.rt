@@ -95,16 +95,13 @@ fn push_answer(text: &mut Vec<u8>, word: &[u8], answer: Result<usize, Refusal>) 
 }
 
 // So many numbers of four bytes each from an offset on.
-#[tactic(auto, using(crate::proofs::Turns::turns))]
 fn numbers(alloc: Global, body: &[u8], offset: u32, count: u16) -> Result<Vec<u32>, AllocError>
     requires within { offset < 8 }
     ensures { IfOk result (λ list. list.items ≡ numbers_at body.now offset count) }
 {
-    let mut list = Vec::new(alloc);
-    for i in 0..u32::from(count) {
-        list.push(u32_at(body, offset + 4 * i))?;
-    }
-    Ok(list)
+    (0..u32::from(count))
+        .map(|i| u32_at(body, offset + 4 * i))
+        .collect(alloc)
 }
 
 // The bytes from an offset on; none where there are fewer.

@@ -1,5 +1,5 @@
-// A record is a length in two bytes, lowest first, and so many bytes. A case is a head of eight bytes, and what its head
-// says that there is of its body.
+// A record is a length in two bytes, lowest first, and so many bytes. A case is a head of eight bytes, and what
+// its head says that there is of its body.
 ghost use Rattle.std.specs.Prelude.{◌≡◌, ◌≤◌, ◌<◌, length, take, drop, Some, vec_len, vec_items, IfOk, OnOk, IfSome};
 ghost use Rattle.std.specs.Fn.{FnReturnsAt};
 ghost use Rattle.std.specs.Option.{option_map};
@@ -26,8 +26,8 @@ pub fn read_record<R: Read>(alloc: Global, input: &mut R, room: usize) -> Result
     Ok(Some(record))
 }
 
-// How long the parts of a case's body are: how much of the head begins it, how much follows the head, and how much of that
-// has to be there.
+// How long the parts of a case's body are: how much of the head begins it, how much follows the head, and how much
+// of that has to be there.
 #[derive(Clone, Copy)]
 pub struct Shape {
     pub begin: usize,
@@ -37,8 +37,8 @@ pub struct Shape {
 
 const HEAD: usize = 8;
 
-// The body of the next case, of the shape that its head says. None where there is no whole head, where it says none, or where
-// too little follows it.
+// The body of the next case, of the shape that its head says. None where there is no whole head, where it says none,
+// or where too little follows it.
 #[tactic(auto, unfolding(crate::specs::Cases::IsNextCase))]
 pub(crate) fn read_case<R: Read, S: Fn(&[u8]) -> Option<Shape>>(
     alloc: Global,
@@ -78,8 +78,8 @@ fn next_bytes<R: Read>(alloc: Global, input: &mut R, most: usize) -> Result<Vec<
     Ok(bytes)
 }
 
-// Reads until `into` is full or the input ends, and says how many bytes came. A loop of its own, since std's `take` does not
-// say what the reader has left after it, nor `read_exact` how many bytes came before the end.
+// Reads until `into` is full or the input ends, and says how many bytes came. A loop of its own: std's `take`
+// does not say what the reader has left, nor `read_exact` how many bytes came before the end.
 fn read_full<R: Read>(input: &mut R, into: &mut [u8]) -> Result<usize>
     ensures bound { ReadsAtMost result into.new }
     ensures size { length into.new ≡ length into.old }

@@ -17,6 +17,7 @@ fn main(rt: HostRuntime) -> ExitCode {
     ended(&rt, answered)
 }
 
+// Not one function with `fan`: the check proves no bound `FnOnce` that names a const parameter, as the room is.
 fn answer(rt: &HostRuntime) -> Result<()> {
     let job = read_input(rt, "screen FILE, or screen < FILE", ENOUGH)?;
     let mut buffer = [0u8; REPORT_ROOM];

@@ -1,5 +1,5 @@
-// Writes the table of the chain book in a file, at the rates that follow its name, or at those of source 000's radon table where
-// none do.
+// Writes the table of the chain book in a file, at the rates that follow its name, or at those of source 000's radon
+// table where none do.
 #![tactic(auto)]
 
 use anyhow::{Context, Result, bail};

@@ -13,7 +13,7 @@ returns-in_err-concentration c =
 
 pub returns-in_err-check_book : goal.returns-in_err-check_book
 returns-in_err-check_book c =
-    let exit = err_from_is_err_and c.from_residual.result c.from_residual.ensures.1 in
+    let exit = err_from_is_err_and c.from_residual-in_err-check_book.result c.from_residual-in_err-check_book.ensures.1 in
     let found = found_by_book c.args.job.now c.args.book.now c.requires c.intake_of.ensures c.in_ok-concentration.was c.check_book.ensures in
     rw (exit.1, exit.2) (refused_is _ _ found c.in_err-check_book.was)
 
