@@ -4,7 +4,7 @@
 use Prim.Native.Nat.{ℕ, ◌≤◌}
 use native.Mathlib.Omega.{arith}
 use Rattle.std.specs.Prelude.{pos}
-use mathlib.Core.Path.{◌≡◌, refl, sym, ◌∙◌}
+use mathlib.Core.Path.{◌≡◌, refl, ap, sym, ◌∙◌}
 use mathlib.Core.Bool.{Bool, true, false, cond}
 use mathlib.Core.List.{List}
 use lib.ListN.{length}
@@ -25,6 +25,7 @@ use Rattle.tables.specs.Table.{rate_line, table_text}
 use Rattle.tables.specs.Answers.{line_room, table_room, buffer_too_short, table_grounds, tabled_if, table_answer, table_answer_number, earlier_grounds}
 use Rattle.tables.specs.Promises.{TablePromises}
 use Rattle.tables.specs.Private.Tabulable.{Tabulable}
+use Rattle.tables.specs.declared.TableAnswer.{TableAnswer}
 use Rattle.tables.proofs.Rates.{rate_low}
 use Rattle.tables.proofs.RateLine.{line_length}
 use Rattle.tables.proofs.ByChecks.{tabulable, in_two}
