@@ -57,7 +57,10 @@ fn half_lives_in(book: &[u8], members: usize) -> [u64; MAX_MEMBERS]
 fn number_in(book: &[u8], members: usize, k: usize) -> u32
     requires { members ≤ max_members }
     ensures { result
-        ≡ cond (ltb k (coefficient_count * members)) (coefficient book.now (k / coefficient_count) (k % coefficient_count)) 0 }
+        ≡ cond
+        (ltb k (coefficient_count * members))
+        (coefficient book.now (k / coefficient_count) (k % coefficient_count))
+        0 }
 {
     if k < COEFFICIENTS * members {
         coefficient_of(book, (k / COEFFICIENTS) as u16, (k % COEFFICIENTS) as u16)

@@ -9,8 +9,8 @@ use super::super::counts::{feed_count, member_count};
 use super::super::feeds::feeds_of;
 use numbers::some_below;
 
-// Counts each feed of member i once more; a third time is no different from a second. A feed is a byte, so every one has
-// its place.
+// Counts each feed of member i once more; a third time is no different from a second. A feed is a byte, so every one
+// has its place.
 fn count_along(book: &[u8], i: u16, counts: &mut [u8])
     requires { length counts.old ≡ 256 }
     ensures { Counted counts.old (feeds_of book.now i) counts.new }
