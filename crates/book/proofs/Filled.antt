@@ -1,22 +1,13 @@
 -- A loop that writes f 0, f 1, .. into the places of a list fills it: after i turns the first i places hold f 0 to f (i - 1)
 -- and the others are as they were. This is the invariant of every such loop, over an array or a lent list.
-use Prim.Native.Nat.{ℕ, zero, suc, ◌+◌, ◌-◌, ◌≤◌, ◌<◌}
+use Prim.Native.Nat.{ℕ, zero, suc, ◌+◌, ◌≤◌, ◌<◌}
 use mathlib.Core.Path.{◌≡◌, refl, sym, ◌∙◌, ap}
 use mathlib.Core.List.{List, [], ◌∷◌, append_assoc}
-use mathlib.Core.Bool.{Bool, true, false, cond}
 use native.Mathlib.Numerals.{add-one}
 use native.Mathlib.Nat.{le_antisymm}
 use native.Mathlib.Decide.{le_ind}
 use native.Mathlib.Omega.{arith}
-use lib.Dec.{ltb}
-use lib.ListN.{length, set, drop, get_or, replicate, length-append, length-set, length-replicate, get_or-append, get_or-replicate}
-use borrow.Author.Tests.{ltb-true, ltb-false}
-use denote.Param.Members.{Mut}
-use Rattle.std.specs.Array.{IsFromFnResult}
-use Rattle.std.specs.Fn.{Called}
-use Rattle.std.proofs.lemmas.Grind.{same_number_lists}
-use Rattle.std.proofs.lemmas.List.{get_or-append_right, drop-replicate}
-use Rattle.numbers.proofs.Made.{made_by}
+use lib.ListN.{length, set, drop, get_or, length-append, length-set, get_or-append}
 use lib.Seq.{drop-cons, set_at, get_or_at}
 use Rattle.book.specs.Held.{up_to, filled}
 
@@ -71,24 +62,3 @@ filled_ahead {f} {list} {n} {i} h l =
 
 pub filled_all : {f : ℕ → ℕ} {list : List ℕ} {n i : ℕ} {now : List ℕ} → Filled f list n i now → n ≤ i → now ≡ filled n f list
 filled_all {f} {list} h l = h.content ∙ ap (λ k. filled k f list) (le_antisymm h.turns l)
-
--- An array that is made by calls at each place, where the closure answers h k below the count and 0 from there on.
-module _ (count : ℕ) (h : ℕ → ℕ) (n k : ℕ) (l : k < n) where
-  place : (b : Bool) → ltb k count ≡ b → cond b (h k) 0 ≡ get_or (filled count h (replicate n 0)) k 0
-  place true less = sym (filled_at count h (replicate n 0) k (ltb-true k count less))
-  place false more =
-      let after : count ≤ k = ltb-false k count more in
-      rw (drop-replicate {X = ℕ} count n 0, get_or-append_right (up_to count h) (replicate (n - count) 0) count k 0 (length_up_to count h) after)
-      (sym (get_or-replicate (n - count) (k - count) 0 0 (omega arith)))
-
-pub filled_by_calls :
-    {F : Type 0} {g : Mut F (ℕ × Unit {0}) ℕ} {f : F} {list : List ℕ} {n : ℕ} (count : ℕ) (h : ℕ → ℕ) → count ≤ n →
-    IsFromFnResult g f list n → ((i y : ℕ) (q : F) → Called g f (i, tt) y q → (q ≡ f) × (y ≡ cond (ltb i count) (h i) 0)) →
-    list ≡ filled count h (replicate n 0)
-filled_by_calls {g = g} {f} {list} {n} count h capacity calls computes =
-    let long : length list ≡ length (filled count h (replicate n 0)) =
-    calls.long ∙ sym (length-append (up_to count h) (drop count (replicate n 0)) ∙ rw (length_up_to count h, drop-replicate {X = ℕ} count n 0, length-replicate {A = ℕ} (n - count) 0) (omega arith))
-    in
-    same_number_lists list (filled count h (replicate n 0)) long (λ k l.
-    let within : k < n = omega (arith, calls.long) in
-    made_by (λ i. cond (ltb i count) (h i) 0) calls computes k within ∙ place count h n k within (ltb k count) refl)

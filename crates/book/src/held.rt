@@ -1,8 +1,8 @@
 // A book's chain in arrays, read once.
-ghost use Rattle.std.specs.Prelude.{◌≡◌, ◌≤◌, cond, ltb, ◌-◌, ◌*◌, ◌/◌, ◌%◌, length, replicate};
+ghost use Rattle.std.specs.Prelude.{◌≡◌, ◌≤◌, min, ◌-◌, ◌*◌, ◌/◌, ◌%◌, length, replicate};
 ghost use Rattle.book.specs.Limits.{max_members, max_feeds};
 ghost use Rattle.book.specs.Fields.{half_life, coefficient_count, coefficient, first_feed, next, along};
-ghost use Rattle.book.specs.Held.{member_places, filled, feeds_in_order, feeds_end, held_chain, held_book};
+ghost use Rattle.book.specs.Held.{filled, feeds_in_order, feeds_end, held_chain, held_book};
 ghost use Rattle.book.specs.Private.Placed.{Placed, Extended};
 
 use super::counts::member_count;
@@ -11,7 +11,6 @@ use super::fields::{coefficient_of, from_of, half_life, share_of};
 use super::layout::{COEFFICIENTS, DIVISOR};
 use super::limits::{MAX_FEEDS, MAX_MEMBERS, WHOLE_SHARE};
 use numbers::u16_at;
-use std::array::from_fn;
 
 // What the balance is worked out from. The feeds stand in the order in which the members' walks meet them: member i's
 // are those from the end of member i - 1's on, and up to its own end.
@@ -34,51 +33,30 @@ pub struct HeldBook {
     pub coefficients: [u32; COEFFICIENTS * MAX_MEMBERS],
 }
 
-// How many members are held.
-fn member_places(book: &[u8]) -> usize
-    ensures { result ≡ member_places book.now }
+// Filled in place: made by `from_fn` and moved, the two arrays take 464 bytes more of a job's stack, past its limit.
+fn half_lives_in(book: &[u8], members: usize, list: &mut [u64; MAX_MEMBERS])
+    requires members_le_max_members { members ≤ max_members }
+    requires list_len { length list.old ≡ max_members }
+    ensures { list.new ≡ filled members (half_life book.now) list.old }
 {
-    usize::from(member_count(book)).min(MAX_MEMBERS)
-}
-
-// Of each member its half-life, and 0 in the places after the last.
-fn half_lives_in(book: &[u8], members: usize) -> [u64; MAX_MEMBERS]
-    requires { members ≤ max_members }
-    ensures { result ≡ filled members (half_life book.now) (replicate max_members 0) }
-{
-    from_fn(|i| if i < members {
-        half_life(book, i as u16)
-    } else {
-        0
-    })
-}
-
-// Number k of all that the members have, five to a member, and 0 after the last.
-fn number_in(book: &[u8], members: usize, k: usize) -> u32
-    requires { members ≤ max_members }
-    ensures { result
-        ≡ cond
-        (ltb k (coefficient_count * members))
-        (coefficient book.now (k / coefficient_count) (k % coefficient_count))
-        0 }
-{
-    if k < COEFFICIENTS * members {
-        coefficient_of(book, (k / COEFFICIENTS) as u16, (k % COEFFICIENTS) as u16)
-    } else {
-        0
+    for i in 0..members {
+        list[i] = half_life(book, i as u16);
     }
 }
 
-// The members' numbers in the same way.
-fn coefficients_in(book: &[u8], members: usize) -> [u32; COEFFICIENTS * MAX_MEMBERS]
-    requires { members ≤ max_members }
-    ensures { result
+// In place too, for the same bytes.
+fn coefficients_in(book: &[u8], members: usize, list: &mut [u32; COEFFICIENTS * MAX_MEMBERS])
+    requires members_le_max_members { members ≤ max_members }
+    requires list_len { length list.old ≡ coefficient_count * max_members }
+    ensures { list.new
         ≡ filled
         (coefficient_count * members)
         (λ k. coefficient book.now (k / coefficient_count) (k % coefficient_count))
-        (replicate (coefficient_count * max_members) 0) }
+        list.old }
 {
-    from_fn(|k| number_in(book, members, k))
+    for k in 0..COEFFICIENTS * members {
+        list[k] = coefficient_of(book, (k / COEFFICIENTS) as u16, (k % COEFFICIENTS) as u16);
+    }
 }
 
 // Member i's feeds, to the places from `start` on, and the place after the last; cut where the places end.
@@ -132,15 +110,17 @@ fn feeds_in(
 pub fn read_chain(book: &[u8]) -> HeldChain
     ensures { result ≡ held_chain book.now }
 {
-    let members = member_places(book);
+    let members = usize::from(member_count(book)).min(MAX_MEMBERS);
+    let mut half_lives = [0u64; MAX_MEMBERS];
     let mut ends = [0u8; MAX_MEMBERS];
     let mut shares = [0u32; MAX_FEEDS];
     let mut froms = [0u8; MAX_FEEDS];
+    half_lives_in(book, members, &mut half_lives);
     feeds_in(book, members, &mut ends, &mut shares, &mut froms);
     HeldChain {
         members,
         scale: WHOLE_SHARE,
-        half_lives: half_lives_in(book, members),
+        half_lives,
         ends,
         shares,
         froms,
@@ -152,9 +132,13 @@ pub fn read_chain(book: &[u8]) -> HeldChain
 pub fn read_book(book: &[u8]) -> HeldBook
     ensures { result ≡ held_book book.now }
 {
+    let chain = read_chain(book);
+    let divisor = u16_at(book, DIVISOR);
+    let mut coefficients = [0u32; COEFFICIENTS * MAX_MEMBERS];
+    coefficients_in(book, chain.members, &mut coefficients);
     HeldBook {
-        chain: read_chain(book),
-        divisor: u16_at(book, DIVISOR),
-        coefficients: coefficients_in(book, member_places(book)),
+        chain,
+        divisor,
+        coefficients,
     }
 }

@@ -1,6 +1,9 @@
-use Rattle.std.proofs.Common.{rules, arith}
-use Rattle.book.proofs.Filled.{filled_by_calls}
+use Rattle.std.proofs.Common.{arith}
+use Rattle.book.proofs.Filled.{filled_none, filled_more}
 use Rattle.book.proofs.held.coefficients_in.Goals as goal
 
-pub returns : goal.returns
-returns c = filled_by_calls _ _ (omega arith) c.from_fn.ensures.items (λ i y q k. search (rules, k.met))
+pub loop-k-init : goal.loop-k-init
+loop-k-init c = filled_none (omega arith)
+
+pub loop-k-preserved : goal.loop-k-preserved
+loop-k-preserved c = filled_more c.loop-k.invariant c.loop-k-test.true c.coefficient_of.ensures
