@@ -33,6 +33,13 @@ pub struct HeldBook {
     pub coefficients: [u32; COEFFICIENTS * MAX_MEMBERS],
 }
 
+// How many members are held.
+fn member_places(book: &[u8]) -> usize
+    ensures { result ≡ member_places book.now }
+{
+    usize::from(member_count(book)).min(MAX_MEMBERS)
+}
+
 // Filled in place: made by `from_fn` and moved, the two arrays take 464 bytes more of a job's stack, past its limit.
 fn half_lives_in(book: &[u8], members: usize, list: &mut [u64; MAX_MEMBERS])
     requires members_le_max_members { members ≤ max_members }
@@ -110,7 +117,7 @@ fn feeds_in(
 pub fn read_chain(book: &[u8]) -> HeldChain
     ensures { result ≡ held_chain book.now }
 {
-    let members = usize::from(member_count(book)).min(MAX_MEMBERS);
+    let members = member_places(book);
     let mut half_lives = [0u64; MAX_MEMBERS];
     let mut ends = [0u8; MAX_MEMBERS];
     let mut shares = [0u32; MAX_FEEDS];
@@ -135,7 +142,7 @@ pub fn read_book(book: &[u8]) -> HeldBook
     let chain = read_chain(book);
     let divisor = u16_at(book, DIVISOR);
     let mut coefficients = [0u32; COEFFICIENTS * MAX_MEMBERS];
-    coefficients_in(book, chain.members, &mut coefficients);
+    coefficients_in(book, member_places(book), &mut coefficients);
     HeldBook {
         chain,
         divisor,
