@@ -1,8 +1,8 @@
 // A book's chain in arrays, read once.
-ghost use Rattle.std.specs.Prelude.{◌≡◌, ◌≤◌, min, ◌-◌, ◌*◌, ◌/◌, ◌%◌, length, replicate};
+ghost use Rattle.std.specs.Prelude.{◌≡◌, ◌≤◌, ◌-◌, ◌*◌, ◌/◌, ◌%◌, length, replicate};
 ghost use Rattle.book.specs.Limits.{max_members, max_feeds};
 ghost use Rattle.book.specs.Fields.{half_life, coefficient_count, coefficient, first_feed, next, along};
-ghost use Rattle.book.specs.Held.{filled, feeds_in_order, feeds_end, held_chain, held_book};
+ghost use Rattle.book.specs.Held.{member_places, filled, feeds_in_order, feeds_end, held_chain, held_book};
 ghost use Rattle.book.specs.Private.Placed.{Placed, Extended};
 
 use super::counts::member_count;
