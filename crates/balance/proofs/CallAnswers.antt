@@ -5,7 +5,7 @@ use Prim.Native.Nat.{ℕ, suc, ◌-◌, ◌<◌}
 use native.Mathlib.Omega.{arith}
 use mathlib.Core.Path.{◌≡◌, refl, sym, ◌∙◌, ap}
 use mathlib.Core.List.{List, ◌++◌}
-use Rattle.std.specs.Prelude.{pos, Result, Ok, Err}
+use Rattle.std.specs.Prelude.{pos, Ok, Err}
 use lib.ListN.{length, get_or, drop, get_or-append}
 use Rattle.book.specs.Rates.{rates_at}
 use Rattle.book.specs.Fields.{members, scale_of}

@@ -1,9 +1,9 @@
 -- The factor call: a rate, a book and a lent list in; checks 3, 9 to 19.
 use Rattle.refusals.specs.declared.Refusal.{Refusal}
-use Rattle.std.specs.Prelude.{ℕ, ℤ, pos, ◌-◌, List, [], ◌∷◌, ◌++◌, length, drop, ltb, Result, Ok, Err}
+use Rattle.std.specs.Prelude.{ℕ, ◌-◌, List, [], ◌∷◌, ◌++◌, length, ltb, Result}
 use Rattle.book.specs.Rates.{max_rate, rates_at}
 use Rattle.book.specs.Fields.{members, scale_of}
-use Rattle.refusals.specs.Grounds.{Ground, ground_of, first_met, refused_number, Checked, answer_if, written_if}
+use Rattle.refusals.specs.Grounds.{Ground, ground_of, first_met, answer_if, written_if}
 use Rattle.book.specs.BookGrounds.{book_grounds}
 use Rattle.balance.specs.Chain.{chain_of}
 use Rattle.balance.specs.Balance.{reported, reported_factor}

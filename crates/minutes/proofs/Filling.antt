@@ -1,11 +1,10 @@
 -- A minute in the lent list itself: below the next member's place stand this minute's factors, and from it on the old ones.
 -- None passes the exact steady factor at rate 0, which is at most 1, so no inflow is too large for a word.
 use Prim.Native.Nat.{ℕ, zero, suc, ◌+◌, ◌-◌, ◌*◌, ◌/◌, ◌≤◌, ◌<◌}
-use native.Mathlib.Nat.{le_of_mul-le-mul_left, lt_of_le_of_lt}
+use native.Mathlib.Nat.{le_of_mul-le-mul_left}
 use native.Mathlib.Omega.{arith}
 use mathlib.Core.Path.{◌≡◌, sym, ap, ◌∙◌}
 use mathlib.Core.List.{List, ◌++◌}
-use lib.Dec.{lit<}
 use lib.ListN.{get_or, set, drop}
 use lib.Seq.{set-get_or}
 use Rattle.book.specs.Fields.{members, scale_of, half_life}

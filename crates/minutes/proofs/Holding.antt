@@ -6,7 +6,6 @@ use native.Mathlib.Numerals.{add-one}
 use native.Mathlib.Omega.{arith}
 use mathlib.Core.Path.{◌≡◌, refl, sym, ap, ◌∙◌}
 use mathlib.Core.List.{List, ◌++◌}
-use lib.Dec.{lit<}
 use lib.ListN.{length, get_or, take, drop, take-append-drop, length-append, length-replicate, get_or-append}
 use lib.Seq.{length-take-le, take_at, drop_at}
 use Rattle.book.specs.Fields.{members, scale_of}

@@ -6,9 +6,8 @@ use native.Mathlib.Nat.{le_refl, le_of_mul-le-mul_left, mul-le-mul_right}
 use native.Mathlib.Omega.{arith}
 use mathlib.Core.Path.{◌≡◌, subst, sym}
 use mathlib.Core.List.{List}
-use lib.Dec.{lit<}
 use lib.ListN.{length, get_or}
-use Rattle.refusals.specs.Grounds.{first_met, Checked, answer_number}
+use Rattle.refusals.specs.Grounds.{first_met, answer_number}
 use Rattle.book.specs.Fields.{members, scale_of}
 use Rattle.book.specs.BookGrounds.{Accepted}
 use Rattle.book.proofs.Rates.{scale_positive, rates_rise}

@@ -12,13 +12,12 @@ use balance::{GRAINS, inflow_of};
 use book::{HeldChain, member_count, read_chain};
 
 // A room that was shut: the parent has all its grains, and the others none yet.
+#[tactic(auto, using(crate::proofs::Beginning::beginning))]
 fn begin(out: &mut [u64], count: usize)
     requires { (1 ≤ count) × (count ≤ length out.old) }
     ensures { out.new ≡ start (count - 1) ++ drop count out.old }
 {
-    for i in 0..count {
-        out[i] = 0;
-    }
+    out[..count].fill(0);
     out[0] = GRAINS;
 }
 

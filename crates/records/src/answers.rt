@@ -73,7 +73,11 @@ pub fn table_case(alloc: Global, body: &[u8]) -> Result<Vec<u8>, AllocError>
     Ok(text)
 }
 
-fn written(alloc: Global, answer: Result<usize, Refusal>, list: &[u64]) -> Result<Vec<u8>, AllocError>
+fn written(
+    alloc: Global,
+    answer: Result<usize, Refusal>,
+    list: &[u64],
+) -> Result<Vec<u8>, AllocError>
     ensures { IfOk result (λ text. text.items ≡ list_line answer list.now) }
 {
     let mut text = Vec::new(alloc);
@@ -85,7 +89,11 @@ fn written(alloc: Global, answer: Result<usize, Refusal>, list: &[u64]) -> Resul
 }
 
 // A count or a length after a word, or the refusal.
-fn push_answer(text: &mut Vec<u8>, word: &[u8], answer: Result<usize, Refusal>) -> Result<(), AllocError>
+fn push_answer(
+    text: &mut Vec<u8>,
+    word: &[u8],
+    answer: Result<usize, Refusal>,
+) -> Result<(), AllocError>
     ensures { OnOk result (text.new.items ≡ text.old.items ++ answered word.now answer) }
 {
     match answer {

@@ -1,6 +1,7 @@
 -- The rows of document 01 that are marked for the check, restated in quarter hours (document 02, R-1), and those of
 -- dose by the guide's fractions (R-2), of a table's entries (R-3), of minutes from a shut room (R-5) and of lowest
 -- rates (R-6): one list, one computation over the definitions.
+use Rattle.refusals.specs.declared.Refusal.{Refusal}
 use Rattle.refusals.specs.Grounds.{answer_number}
 use Rattle.std.specs.Prelude.{ℕ, suc, ℤ, pos, negsuc, ◌*◌, ◌/◌, Bool, true, false, ◌&&◌, ◌≡◌, refl, eqb, nat_le}
 use Rattle.std.specs.Prelude.{List, [], ◌∷◌, ◌++◌, replicate, length, Result, Ok, Err}
@@ -35,7 +36,7 @@ use Rattle.screening.specs.Screening.{figures_at, answer_of}
 use Rattle.ventilation.specs.Lowest.{first_rate, lowest_of, lowest_number}
 use Rattle.exposure.specs.declared.groups.Exposure.{Exposure}
 use Rattle.exposure.specs.declared.kind.Kind.{Kind}
-use Rattle.screening.specs.declared.job.Outcome.{Outcome}
+use Rattle.screening.specs.declared.job.Answer.{Answer}
 use Rattle.verdict.specs.declared.verdict.Verdict.{Verdict}
 use Rattle.verdict.specs.declared.verdict.Verdict.TheVariants.{Below, Close, Above}
 use Rattle.rows.specs.Encoding.{member, feed, book_bytes, risk_job, dose_job}
@@ -132,13 +133,13 @@ number_is : Result ℕ ReadingError → ℕ → Bool
 number_is (Ok m) n = eqb m n
 number_is (Err error) n = false
 
-verdict_is : Outcome → Verdict → Bool
-verdict_is (Outcome.Screened figures) v = eqb (verdict_order figures.verdict) (verdict_order v)
-verdict_is (Outcome.Refused refusal) v = false
+verdict_is : Result Answer Refusal → Verdict → Bool
+verdict_is (Ok answer) v = eqb (verdict_order answer.figures.verdict) (verdict_order v)
+verdict_is (Err refusal) v = false
 
-level_is : Outcome → ℕ → Bool
-level_is (Outcome.Screened figures) n = eqb figures.level n
-level_is (Outcome.Refused refusal) n = false
+level_is : Result Answer Refusal → ℕ → Bool
+level_is (Ok answer) n = eqb answer.figures.level n
+level_is (Err refusal) n = false
 
 -- An answer's number is a count, or minus that of a refusal.
 counts : ℤ → ℕ → Bool
@@ -161,8 +162,8 @@ holds (measures medium unit af bits C) =
     (record { value = of_bits binary64 bits; uncertainty = of_bits binary64 0 }))
     C
 holds (working C Fm W n) = eqb (micro_levels C Fm W) n
-holds (judged job v) = verdict_is (answer_of job).outcome v
-holds (levelled job n) = level_is (answer_of job).outcome n
+holds (judged job v) = verdict_is (answer_of job) v
+holds (levelled job n) = level_is (answer_of job) n
 holds (entered factor text) = same_list (entry_of factor) (ascii text)
 holds (tabled rates book text) =
     counts (answer_number (table_answer rates book (length (lines text)))) (length (lines text))

@@ -47,10 +47,7 @@ pub(crate) fn check_fields(job: &[u8]) -> Result<(), Refusal>
         attenuation_out_of_range(job),
         Refusal::AttenuationOutOfRange,
     )?;
-    refuse_if(
-        out_of_range(exposure_of(job)),
-        Refusal::ExposureOutOfRange,
-    )
+    refuse_if(out_of_range(exposure_of(job)), Refusal::ExposureOutOfRange)
 }
 
 // The intake of the job's reading. A NaN's pattern cannot become an f64, so the patterns are looked at first.

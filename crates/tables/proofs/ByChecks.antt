@@ -1,6 +1,6 @@
 -- What the checks before the last ensure where they pass, and what the call answers and leaves where they do not. The
 -- last is whether there is room.
-use Rattle.std.specs.Prelude.{Result, Ok, Err}
+use Rattle.std.specs.Prelude.{Ok, Err}
 use Prim.Native.Nat.{ℕ}
 use mathlib.Core.Path.{◌≡◌, sym, ap, ◌∙◌}
 use mathlib.Core.Bool.{Bool, cond}

@@ -1,7 +1,7 @@
 -- The table call: a list of rates, a book and a lent buffer in; checks 3, 9 to 18, 20, 21.
 use Rattle.refusals.specs.declared.Refusal.{Refusal}
-use Rattle.std.specs.Prelude.{ℕ, ℤ, pos, ◌+◌, ◌*◌, Bool, List, [], ◌∷◌, ◌++◌, length, get_or, ltb, Result, Ok, Err}
-use Rattle.refusals.specs.Grounds.{Ground, ground_of, first_met, refused_number, Checked, written_if, answer_if}
+use Rattle.std.specs.Prelude.{ℕ, ◌+◌, ◌*◌, Bool, List, [], ◌∷◌, ◌++◌, length, get_or, ltb, Result}
+use Rattle.refusals.specs.Grounds.{Ground, ground_of, first_met, written_if, answer_if}
 use Rattle.refusals.specs.declared.Refusal.TheVariants.{RateTooHigh, RateCountOutOfRange, BufferTooShort}
 use Rattle.book.specs.Limits.{max_members}
 use Rattle.numbers.specs.Tests.{outside, some_below}
