@@ -4,7 +4,7 @@ use Rattle.refusals.specs.Grounds.{answer_number}
 use Rattle.std.specs.Prelude.{ℕ, List, ℤ, pos}
 use Rattle.balance.specs.Factors.{factor_answer}
 use Rattle.minutes.specs.Periods.{periods_answer}
-use Rattle.text.specs.Lent.{length_written}
+use Rattle.text.specs.Answered.{length_written}
 use Rattle.report.specs.Report.{report_of}
 use Rattle.ventilation.specs.Lowest.{lowest_of, lowest_number}
 use Rattle.tables.specs.Answers.{table_answer}

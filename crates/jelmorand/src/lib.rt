@@ -6,7 +6,7 @@ ghost use Rattle.std.specs.Prelude.{◌≡◌, ◌<◌, ◌^◌, IfOk, length};
 ghost use Rattle.balance.specs.Factors.{factor_list};
 ghost use Rattle.minutes.specs.Periods.{periods_list};
 ghost use Rattle.report.specs.Report.{report_of};
-ghost use Rattle.text.specs.Lent.{bytes_written};
+ghost use Rattle.text.specs.Answered.{bytes_written};
 ghost use Rattle.tables.specs.Answers.{table_buffer};
 ghost use Rattle.refusals.specs.Grounds.{refused_number, answer_number};
 ghost use Rattle.jelmorand.specs.Answers.{factors_number, report_number};
@@ -55,7 +55,7 @@ pub extern "C" fn jelmorand_report(job: &[u8], out: &mut [u8]) -> i64
     ensures answered { result ≡ report_number job.now (length out.old) }
     ensures written { out.new ≡ bytes_written (report_of job.now) out.old }
 {
-    report_job(job, out) as i64
+    report_job(job, out).unwrap_or(0) as i64
 }
 
 // The table of a book at every rate of a list, to the start of `out`, and its length; a refusal leaves `out` as it was.

@@ -1,17 +1,17 @@
 -- How long the parts of a report are. Each number has at most 20 digits and each book at most 16 members, so no report
 -- is longer than `report_room`; and every report has a line, so that a length of 0 says only that there was no room.
-use Prim.Native.Nat.{ℕ, ◌+◌, ◌*◌, ◌≤◌, ◌<◌}
+use Prim.Native.Nat.{ℕ, ◌+◌, ◌*◌, ◌^◌, ◌≤◌, ◌<◌}
 use native.Mathlib.Omega.{arith}
 use mathlib.Core.Path.{◌≡◌, refl}
-use mathlib.Core.List.{List}
+use mathlib.Core.List.{List, ◌++◌}
 use lib.ListN.{length, length-append, length-take, take, get_or}
 use Rattle.std.specs.Prelude.{Option, None, Some}
 use Rattle.book.specs.Limits.{max_members}
 use Rattle.text.specs.Words.{decimal}
 use Rattle.text.proofs.Digits.{decimal_at_most}
-use Rattle.text.proofs.Pieces.{each_more, each_at_most}
+use Rattle.text.proofs.Pieces.{each_at_most}
 use Rattle.refusals.specs.Grounds.{refusal_number}
-use Rattle.report.specs.Report.{factor_line, factor_lines, verdict_line, working_lines, figure_lines, text_of}
+use Rattle.report.specs.Report.{factor_line, factor_lines, verdict_line, working_lines, figure_lines, refused_line, text_of}
 use Rattle.report.specs.Report.{factor_line_room, working_room, figures_room, report_room}
 use Rattle.screening.specs.declared.job.Figures.{Figures}
 use Rattle.screening.specs.declared.job.Answer.{Answer}
@@ -34,29 +34,12 @@ pub figures_measured :
     + length (working_lines figures.working)
 figures_measured figures = simp length-append (omega (arith, verdict_length figures.verdict))
 
--- What the measuring of the figures and the room for a verdict's line read.
-pub ruleset lengths = (verdict_length, figures_measured)
-
 factor_line_at_most : (member factor : ℕ) → length (factor_line member factor) ≤ factor_line_room
 factor_line_at_most member factor = simp length-append (omega (arith, decimal_at_most member, decimal_at_most factor))
 
 factor_lines_at_most : (factors : List ℕ) → length (factor_lines factors) ≤ factor_line_room * length factors
 factor_lines_at_most factors =
     each_at_most factor_line (λ _. Unit {0}) factor_line_room (λ k x _. factor_line_at_most k x) 0 factors (λ _ _. tt)
-
--- One factor more is one line more.
-pub lines_more :
-    (factors : List ℕ) (i : ℕ) → i < length factors →
-    length (factor_lines (take (i + 1) factors))
-    ≡ length (factor_lines (take i factors)) + (9 + length (decimal i) + length (decimal (get_or factors i 0)))
-lines_more factors i l = rw each_more (simp length-append (omega arith))
-
-pub lines_within :
-    (factors : List ℕ) (i : ℕ) → length (factor_lines (take i factors)) ≤ factor_line_room * length factors
-lines_within factors i = omega (arith, factor_lines_at_most (take i factors), length-take i factors)
-
--- What the measuring of the factors' lines reads.
-pub ruleset measuring = (lines_more, lines_within)
 
 working_at_most : (working : Option WorkingLevels) → length (working_lines working) ≤ working_room
 working_at_most None = omega arith
@@ -87,3 +70,14 @@ lines_some (Ok answer) =
     let both = length-append (factor_lines (take answer.count answer.factors)) (figure_lines answer.figures) in
     omega (arith, figures_measured answer.figures)
 lines_some (Err refusal) = omega arith
+
+-- So the lines of an answer, and a refusal's, are counted in a word.
+pub screened_within_a_word :
+    (factors : List ℕ) (n : ℕ) (figures : Figures) → n ≤ max_members →
+    length (factor_lines (take n factors) ++ figure_lines figures) < 2 ^ 64
+screened_within_a_word factors n figures few =
+    let both = length-append (factor_lines (take n factors)) (figure_lines figures) in
+    omega (arith, length-take n factors, factor_lines_at_most (take n factors), figures_at_most figures)
+
+pub refused_within_a_word : (refusal : Refusal) → length (refused_line refusal) < 2 ^ 64
+refused_within_a_word refusal = simp length-append (omega (arith, decimal_at_most (refusal_number refusal)))

@@ -1,67 +1,78 @@
-// The lines of a report, each written into a lent list from a place on.
-ghost use Rattle.std.specs.Prelude.{◌+◌, ◌≤◌, length};
-ghost use Rattle.text.specs.Lent.{Put};
-ghost use Rattle.report.specs.Report.{factor_line, factor_lines, verdict_line, working_lines, figure_lines};
+// The lines of a report, each handed to a sink.
+ghost use Rattle.std.specs.Prelude.{◌≤◌, ◌≡◌, length};
+ghost use Rattle.text.specs.Words.{ascii};
+ghost use Rattle.report.specs.Report.{factor_line, factor_lines, verdict_line, verdict_word, working_lines, figure_lines};
+ghost use Rattle.report.specs.Report.{refused_line};
 
+use refusals::{Refusal, refusal_number};
 use screening::{Figures, Verdict, WorkingLevels};
-use text::{put, put_line, put_number};
+use text::{Sink, put_line};
 
 // One line for each factor.
-pub(crate) fn put_factor_lines(out: &mut [u8], start: usize, factors: &[u64]) -> usize
-    requires { start + length (factor_lines factors.now) ≤ length out.old }
-    ensures { Put out.old start (factor_lines factors.now) out.new result }
+pub(crate) fn put_factor_lines<S: Sink>(sink: &mut S, factors: &[u64])
+    requires { length (factor_lines factors.now) ≤ S.room sink.old }
+    ensures { S.Took sink.old (factor_lines factors.now) sink.new }
 {
-    let mut at = start;
     for (i, factor) in factors.iter().enumerate() {
-        at = put_factor_line(out, at, i, *factor);
+        put_factor_line(sink, i, *factor);
     }
-    at
 }
 
-fn put_factor_line(out: &mut [u8], at: usize, member: usize, factor: u64) -> usize
-    requires { at + length (factor_line member factor) ≤ length out.old }
-    ensures { Put out.old at (factor_line member factor) out.new result }
+fn put_factor_line<S: Sink>(sink: &mut S, member: usize, factor: u64)
+    requires { length (factor_line member factor) ≤ S.room sink.old }
+    ensures { S.Took sink.old (factor_line member factor) sink.new }
 {
-    let named = put(out, at, b"factor ");
-    let numbered = put_number(out, named, member as u64);
-    put_line(out, numbered, b" ", factor)
+    sink.word(b"factor ");
+    sink.number(member as u64);
+    put_line(sink, b" ", factor);
 }
 
-pub(crate) fn put_figures(out: &mut [u8], at: usize, figures: Figures) -> usize
-    requires { at + length (figure_lines figures) ≤ length out.old }
-    ensures { Put out.old at (figure_lines figures) out.new result }
+pub(crate) fn put_figures<S: Sink>(sink: &mut S, figures: Figures)
+    requires { length (figure_lines figures) ≤ S.room sink.old }
+    ensures { S.Took sink.old (figure_lines figures) sink.new }
 {
-    let concentration = figures.concentration;
-    let verdict = figures.verdict;
-    let level = figures.level as u64;
-    let working = figures.working;
-    let measured = put_line(out, at, b"concentration ", concentration);
-    let judged = put_verdict(out, measured, verdict);
-    let levelled = put_line(out, judged, b"level ", level);
-    put_working(out, levelled, working)
+    put_line(sink, b"concentration ", figures.concentration);
+    put_verdict(sink, figures.verdict);
+    put_line(sink, b"level ", figures.level as u64);
+    put_working(sink, figures.working);
 }
 
-#[tactic(auto, using(crate::proofs::ReportLengths::lengths))]
-fn put_verdict(out: &mut [u8], at: usize, verdict: Verdict) -> usize
-    requires { at + length (verdict_line verdict) ≤ length out.old }
-    ensures { Put out.old at (verdict_line verdict) out.new result }
+#[tactic(auto, unfolding(crate::specs::Report::verdict_line))]
+fn put_verdict<S: Sink>(sink: &mut S, verdict: Verdict)
+    requires { length (verdict_line verdict) ≤ S.room sink.old }
+    ensures { S.Took sink.old (verdict_line verdict) sink.new }
+{
+    sink.word(b"verdict ");
+    sink.word(word_of(verdict));
+    sink.word(b"\n");
+}
+
+fn word_of(verdict: Verdict) -> &'static [u8]
+    ensures { result.now ≡ ascii (verdict_word verdict) }
 {
     match verdict {
-        Verdict::Below => put(out, at, b"verdict below\n"),
-        Verdict::Close => put(out, at, b"verdict close\n"),
-        Verdict::Above => put(out, at, b"verdict above\n"),
+        Verdict::Below => b"below",
+        Verdict::Close => b"close",
+        Verdict::Above => b"above",
     }
 }
 
-fn put_working(out: &mut [u8], at: usize, working: Option<WorkingLevels>) -> usize
-    requires { at + length (working_lines working) ≤ length out.old }
-    ensures { Put out.old at (working_lines working) out.new result }
+fn put_working<S: Sink>(sink: &mut S, working: Option<WorkingLevels>)
+    requires { length (working_lines working) ≤ S.room sink.old }
+    ensures { S.Took sink.old (working_lines working) sink.new }
 {
     match working {
-        None => put(out, at, b"equilibrium none\nworking none\n"),
+        None => sink.word(b"equilibrium none\nworking none\n"),
         Some(WorkingLevels { equilibrium, micro }) => {
-            let factor = put_line(out, at, b"equilibrium ", equilibrium);
-            put_line(out, factor, b"working ", micro)
+            put_line(sink, b"equilibrium ", equilibrium);
+            put_line(sink, b"working ", micro);
         }
     }
+}
+
+pub(crate) fn put_refusal<S: Sink>(sink: &mut S, refusal: Refusal)
+    requires { length (refused_line refusal) ≤ S.room sink.old }
+    ensures { S.Took sink.old (refused_line refusal) sink.new }
+{
+    put_line(sink, b"refused ", refusal_number(refusal));
 }

@@ -14,16 +14,8 @@ pub(crate) fn table_length(rates: &[u32], book: &[u8]) -> usize
 {
     // A space and an entry for each member, and a line feed.
     let entries = member_count(book) as usize * (1 + ENTRY_LENGTH) + 1;
-    let mut total = 0;
-    for i in 0..rates.len() {
-        total += decimal_length(widened(rates[i])) + entries;
-    }
-    total
-}
-
-// An element of a lent list in the type that the count of digits takes.
-fn widened(rate: u32) -> u64
-    ensures { result ≡ rate }
-{
-    rate as u64
+    rates
+        .iter()
+        .map(|rate| decimal_length(u64::from(*rate)) + entries)
+        .sum()
 }

@@ -8,7 +8,7 @@ mod lines;
 mod source_rates;
 
 ghost use Rattle.std.specs.Prelude.{◌≡◌, length};
-ghost use Rattle.text.specs.Lent.{bytes_written};
+ghost use Rattle.text.specs.Answered.{bytes_written};
 ghost use Rattle.tables.specs.Table.{table_text};
 ghost use Rattle.tables.specs.Answers.{table_answer, table_buffer};
 ghost use Rattle.tables.specs.Private.Tabulable.{Tabulable, fitting_answer};
@@ -19,6 +19,7 @@ pub use limits::{MAX_RATES, TABLE_ROOM};
 use lines::put_rate_lines;
 use refusals::{Refusal, refuse_if};
 pub use source_rates::SOURCE_RATES;
+use text::Writer;
 
 // The table of a book at every rate of a list, to the start of `out`: the text's length; a refusal leaves `out` as it
 // was.
@@ -40,5 +41,7 @@ fn write_table(rates: &[u32], book: &[u8], out: &mut [u8]) -> Result<usize, Refu
         out.len() < table_length(rates, book),
         Refusal::BufferTooShort,
     )?;
-    Ok(put_rate_lines(out, rates, book))
+    let mut writer = Writer::new(out);
+    put_rate_lines(&mut writer, rates, book);
+    Ok(writer.length())
 }

@@ -1,7 +1,7 @@
 -- The fewest decimal digits of a number below 2^64 are its `decimal`. Both take the last digit off and go on with the
 -- quotient by ten, so they agree digit by digit; the fewest digits end where the quotient is below ten.
 use Prim.Native.Nat.{ℕ, zero, suc, ◌+◌, ◌*◌, ◌/◌, ◌%◌, ◌-◌, ◌^◌, ◌≤◌, ◌<◌}
-use mathlib.Core.Path.{◌≡◌, refl}
+use mathlib.Core.Path.{◌≡◌, refl, ap}
 use mathlib.Core.Bool.{Bool, true, false, cond}
 use mathlib.Core.List.{List, [], ◌∷◌, ◌++◌}
 use native.Mathlib.Nat.{pow-suc, one-le-pow}
@@ -63,21 +63,21 @@ pub decimal_below : (k n : ℕ) → n < 10 ^ suc k → length (decimal n) ≤ su
 unfolding decimal
 decimal_below k n h = up_to_at_most 19 k n (λ _. h)
 
--- One more digit allowed for is not written, where the number has no more than were allowed for before.
-no_deeper : (m n : ℕ) → n < 10 ^ suc m → decimal_up_to (suc m) n ≡ decimal_up_to m n
-no_deeper zero n h = rw (lt-ltb n 10 (omega arith)) refl
-no_deeper (suc m) n h =
-    let p : 10 ^ suc (suc m) ≡ 10 ^ suc m * 10 = pow-suc 10 (suc m) in rw (no_deeper m (n / 10) (omega arith)) refl
+digits_long : (k n : ℕ) → length (last_digits 10 k n) ≡ k
+digits_long zero n = refl
+digits_long (suc k) n = simp length-append (omega (arith, digits_long k (n / 10)))
 
--- A number has one digit more than its tenth, and below ten it has one.
-pub decimal_more : (n : ℕ) → 10 ≤ n → n < 2 ^ 64 → length (decimal (n / 10)) + 1 ≡ length (decimal n)
-unfolding decimal
-decimal_more n more small =
-    let e = no_deeper 18 (n / 10) (omega arith) in rw (le-ltb n 10 more, e) (simp length-append refl)
+-- A number that is not zero has one digit more than the highest power of ten within it has zeros.
+pub digits_counted : (n k : ℕ) → n < 2 ^ 64 → 10 ^ k ≤ n → n < 10 * 10 ^ k → length (decimal n) ≡ k + 1
+digits_counted n k small from below =
+    let p : 10 ^ suc k ≡ 10 ^ k * 10 = pow-suc 10 k in
+    let e : suc k - 1 ≡ k = omega arith in
+    let is = digits_decimal n (suc k) small (omega arith, omega arith, λ _. rw e from) in
+    omega (arith, digits_long (suc k) n, ap length is)
 
-pub decimal_last : (n : ℕ) → n < 10 → length (decimal n) ≡ 1
+pub zero_counted : length (decimal 0) ≡ 1
 unfolding decimal
-decimal_last n h = rw (lt-ltb n 10 h) refl
+zero_counted = refl
 
 -- What the counting of a number's digits reads.
-pub ruleset counting = (decimal_more, decimal_last, decimal_at_most)
+pub ruleset counting = (digits_counted, zero_counted, decimal_at_most)

@@ -1,6 +1,7 @@
 -- A number's decimal digits.
 pub mod Digits
--- Writing into a lent list: one thing and then another, the whole of a text, and a piece for each item.
-pub mod Putting
-pub mod Written
+-- Copying a word into its place of a lent list, and the whole of a text.
+pub mod Placed
+pub mod Whole
+-- Handing a sink a piece for each item.
 pub mod Pieces

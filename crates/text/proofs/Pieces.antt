@@ -1,7 +1,7 @@
--- A loop that puts a piece of text for each item of a list: after i turns the pieces of the first i items are written,
--- and the next has room, since all of them together have.
+-- A loop that hands a sink a piece of text for each item of a list: after i turns it took the pieces of the first i
+-- items, and the next has room, since all of them together have.
 use Prim.Native.Nat.{ℕ, suc, ◌+◌, ◌*◌, ◌≤◌, ◌<◌}
-use mathlib.Core.Path.{◌≡◌, refl, sym, ap, ◌∙◌}
+use mathlib.Core.Path.{◌≡◌, sym, ap, ◌∙◌}
 use mathlib.Core.List.{List, [], ◌∷◌, ◌++◌, append_assoc, append-nil}
 use native.Mathlib.Nat.{add-zero, zero-add, mul-suc}
 use native.Mathlib.Numerals.{add-one}
@@ -9,8 +9,7 @@ use native.Mathlib.Omega.{arith}
 use lib.ListN.{length, take, drop, get_or, length-append, take-append-drop}
 use lib.Seq.{take-suc, take_all, length-take-le}
 use Rattle.text.specs.Words.{each}
-use Rattle.text.specs.Lent.{Put}
-use Rattle.text.proofs.Putting.{put_none, and_then}
+use Rattle.text.specs.Sinks.{SinkLaws}
 
 pub each_append :
     (piece : ℕ → ℕ → List ℕ) (k : ℕ) (xs ys : List ℕ) →
@@ -71,54 +70,36 @@ each_as_long piece size h k (x ∷ xs) =
     let more : size * length (x ∷ xs) ≡ size * length xs + size = mul-suc size (length xs) in
     rw length-append (omega (arith, h k x))
 
-pub record Writing (piece : ℕ → ℕ → List ℕ) (items list : List ℕ) (start i : ℕ) (now : List ℕ) (at : ℕ) : Type 0 where
-  pub turns : i ≤ length items
-  pub capacity : start + length (each piece 0 items) ≤ length list
-  pub put : Put list start (each piece 0 (take i items)) now at
+module _ {Sink : Type 0} (room : Sink → ℕ) (Took : Sink → List ℕ → Sink → Type 0) where
+  pub record Handed (piece : ℕ → ℕ → List ℕ) (items : List ℕ) (start : Sink) (i : ℕ) (now : Sink) : Type 0 where
+    pub turns : i ≤ length items
+    pub fits : length (each piece 0 items) ≤ room start
+    pub took : Took start (each piece 0 (take i items)) now
 
-pub none :
-    {piece : ℕ → ℕ → List ℕ} {items list : List ℕ} {start : ℕ} → start + length (each piece 0 items) ≤ length list →
-    Writing piece items list start 0 list start
-none {list = list} {start = start} h = record { turns = omega arith; capacity = h; put = put_none list start }
+-- Handed one text and then another, it was handed both.
+pub and_then :
+    {Sink : Type 0} {room : Sink → ℕ} {Took : Sink → List ℕ → Sink → Type 0} → SinkLaws room Took →
+    {s t u : Sink} {a b : List ℕ} → Took s a t → Took t b u → Took s (a ++ b) u
+and_then laws p q = laws.both _ _ _ _ _ p q
 
-module _ {piece : ℕ → ℕ → List ℕ} {items list now : List ℕ} {start i at : ℕ}
-    (writing : Writing piece items list start i now at) where
-  pub capacity : i < length items → at + length (piece i (get_or items i 0)) ≤ length now
-  capacity h = omega (arith, each_within piece items i h, writing.capacity, writing.put.size, writing.put.place)
+module _ {Sink : Type 0} {room : Sink → ℕ} {Took : Sink → List ℕ → Sink → Type 0} (laws : SinkLaws room Took)
+    {piece : ℕ → ℕ → List ℕ} {items : List ℕ} {start : Sink} where
+  pub none : length (each piece 0 items) ≤ room start → Handed room Took piece items start 0 start
+  none fits = record { turns = omega arith; fits = fits; took = laws.nothing start }
 
-  pub more :
-      {next : List ℕ} {end : ℕ} → i < length items → Put now at (piece i (get_or items i 0)) next end →
-      Writing piece items list start (i + 1) next end
-  more h one =
-      record {
-        turns = omega arith;
-        capacity = writing.capacity;
-        put = rw (each_more piece items i h) (and_then writing.put one);
-      }
+  module _ {i : ℕ} {now : Sink} (handed : Handed room Took piece items start i now) where
+    pub roomy : i < length items → length (piece i (get_or items i 0)) ≤ room now
+    roomy h = omega (arith, each_within piece items i h, handed.fits, laws.less _ _ _ handed.took)
 
-  pub all : length items ≤ i → Put list start (each piece 0 items) now at
-  all h = rw (take_all i items h) at writing.put
+    pub more :
+        {next : Sink} → i < length items → Took now (piece i (get_or items i 0)) next →
+        Handed room Took piece items start (i + 1) next
+    more h one =
+        record {
+          turns = omega arith;
+          fits = handed.fits;
+          took = rw (each_more piece items i h) (and_then laws handed.took one);
+        }
 
--- A loop that adds up how long the pieces are, none longer than `most`.
-pub record Measuring (piece : ℕ → ℕ → List ℕ) (items : List ℕ) (most i total : ℕ) : Type 0 where
-  pub turns : i ≤ length items
-  pub is : total ≡ length (each piece 0 (take i items))
-  pub within : total ≤ most * i
-
-pub unmeasured : (piece : ℕ → ℕ → List ℕ) (items : List ℕ) (most : ℕ) → Measuring piece items most 0 0
-unmeasured piece items most = record { turns = omega arith; is = refl; within = omega arith }
-
-module _ {piece : ℕ → ℕ → List ℕ} {items : List ℕ} {most i total : ℕ}
-    (measuring : Measuring piece items most i total) where
-  pub measured_more :
-      {one : ℕ} → i < length items → one ≡ length (piece i (get_or items i 0)) → one ≤ most →
-      Measuring piece items most (i + 1) (total + one)
-  measured_more h e fits =
-      record {
-        turns = omega arith;
-        is = rw (each_more piece items i h, length-append, measuring.is, e);
-        within = omega (arith, measuring.within);
-      }
-
-  pub measured_all : length items ≤ i → total ≡ length (each piece 0 items)
-  measured_all h = rw (take_all i items h) at measuring.is
+    pub all : length items ≤ i → Took start (each piece 0 items) now
+    all h = rw (take_all i items h) at handed.took

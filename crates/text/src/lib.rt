@@ -1,44 +1,106 @@
-// Text written into a lent list of bytes: a word, a number in decimal or a line, each from a place of the list on.
-// Each call answers the place after what it wrote, where the next one goes on.
+// Texts of words and numbers. What makes a text hands it to a sink, a piece at a time: to one that counts its bytes, or
+// to one that writes them into a lent list. So a text is described once, and what is counted is what is written.
 #![tactic(auto)]
 
-ghost use Rattle.std.specs.Prelude.{◌+◌, ◌≤◌, ◌≡◌, length};
+ghost use Rattle.std.specs.Prelude.{◌+◌, ◌≤◌, ◌≡◌, ◌^◌, ◌<◌, length, ℕ, List};
 ghost use Rattle.text.specs.Words.{decimal, most_digits, numbered};
-ghost use Rattle.text.specs.Lent.{Put};
+ghost use Rattle.text.specs.Sinks.{SinkLaws};
+ghost use Rattle.text.specs.Answered.{length_written, bytes_written};
 
 // No number of 64 bits has more decimal digits.
 pub const MOST_DIGITS: usize = 20;
 
-// A word.
-#[tactic(auto, unfolding(crate::specs::Lent::over))]
-pub fn put(out: &mut [u8], at: usize, word: &[u8]) -> usize
-    requires { at + length word.now ≤ length out.old }
-    ensures { Put out.old at word.now out.new result }
-{
-    let end = at + word.len();
-    out[at..end].copy_from_slice(word);
-    end
-}
+pub trait Sink {
+    // How many more bytes it takes.
+    ghost room: { Self → ℕ };
 
-// A number in decimal.
-#[tactic(auto, using(crate::proofs::Digits::digits_decimal))]
-pub fn put_number(out: &mut [u8], at: usize, n: u64) -> usize
-    requires { at + length (decimal n) ≤ length out.old }
-    ensures { Put out.old at (decimal n) out.new result }
-{
-    let mut digits = [0u8; MOST_DIGITS];
-    let k = io::decimal(n, &mut digits);
-    put(out, at, &digits[..k])
+    // It was handed the text, and has become the second.
+    ghost Took: { Self → List ℕ → Self → Type 0 };
+
+    fn word(&mut self, word: &[u8])
+        requires { length word.now ≤ room self.old }
+        ensures { Took self.old word.now self.new };
+
+    fn number(&mut self, n: u64)
+        requires { length (decimal n) ≤ room self.old }
+        ensures { Took self.old (decimal n) self.new };
+
+    ghost laws: { SinkLaws room Took };
 }
 
 // A word, a number, a line feed.
-pub fn put_line(out: &mut [u8], at: usize, word: &[u8], n: u64) -> usize
-    requires { at + length (numbered word.now n) ≤ length out.old }
-    ensures { Put out.old at (numbered word.now n) out.new result }
+pub fn put_line<S: Sink>(sink: &mut S, word: &[u8], n: u64)
+    requires { length (numbered word.now n) ≤ S.room sink.old }
+    ensures { S.Took sink.old (numbered word.now n) sink.new }
 {
-    let named = put(out, at, word);
-    let counted = put_number(out, named, n);
-    put(out, counted, b"\n")
+    sink.word(word);
+    sink.number(n);
+    sink.word(b"\n");
+}
+
+// What can be handed to any sink.
+pub trait Text {
+    ghost bytes: { Self → List ℕ };
+
+    fn put<S: Sink>(&self, sink: &mut S)
+        requires { length (bytes self.now) ≤ S.room sink.old }
+        ensures { S.Took sink.old (bytes self.now) sink.new };
+}
+
+// All of a text, to the start of `out`, and its length; where there is no room for all of it none, with `out` as it was.
+#[tactic(auto, using(crate::proofs::Whole::lent))]
+pub fn write_whole<T: Text>(text: &T, out: &mut [u8]) -> Option<usize>
+    requires { length (T.bytes text.now) < 2 ^ 64 }
+    ensures answered { result ≡ length_written (T.bytes text.now) (length out.old) }
+    ensures written { out.new ≡ bytes_written (T.bytes text.now) out.old }
+{
+    let mut counter = Counter::new();
+    text.put(&mut counter);
+    if out.len() < counter.bytes() {
+        return None;
+    }
+    let mut writer = Writer::new(out);
+    text.put(&mut writer);
+    Some(writer.length())
+}
+
+// Counts the bytes.
+#[derive(Drop)]
+pub struct Counter {
+    bytes: usize,
+}
+
+impl Counter {
+    pub fn new() -> Counter
+        ensures { result.bytes ≡ 0 }
+    {
+        Counter { bytes: 0 }
+    }
+
+    pub fn bytes(&self) -> usize
+        ensures { result ≡ self.now.bytes }
+    {
+        self.bytes
+    }
+}
+
+impl Sink for Counter {
+    ghost use Rattle.text.specs.Counts.{uncounted, Counted};
+    ghost use Rattle.text.specs.Laws.{counter_laws};
+
+    ghost room = { uncounted };
+
+    ghost Took = { Counted };
+
+    ghost laws = { counter_laws };
+
+    fn word(&mut self, word: &[u8]) {
+        self.bytes += word.len();
+    }
+
+    fn number(&mut self, n: u64) {
+        self.bytes += decimal_length(n);
+    }
 }
 
 // How many digits a number has.
@@ -47,11 +109,55 @@ pub fn decimal_length(n: u64) -> usize
     ensures counted { result ≡ length (decimal n) }
     ensures within { result ≤ most_digits }
 {
-    let mut count = 1;
-    let mut rest = n;
-    while rest >= 10 {
-        rest /= 10;
-        count += 1;
+    n.checked_ilog10().map_or(1, |k| k as usize + 1)
+}
+
+// Writes the bytes into a lent list, from its start on.
+#[derive(Drop)]
+pub struct Writer<'a> {
+    out: &'a mut [u8],
+    written: usize,
+    ghost within: { written ≤ length out.now },
+}
+
+impl<'a> Writer<'a> {
+    pub fn new(out: &'a mut [u8]) -> Writer<'a>
+        ensures same_list { result.out.ghost_name ≡ out.entry.ghost_name }
+        ensures as_it_was { result.out.now ≡ out.old }
+        ensures nothing { result.written ≡ 0 }
+    {
+        Writer { out, written: 0 }
     }
-    count
+
+    // How many bytes are written.
+    pub fn length(&self) -> usize
+        ensures { result ≡ self.now.written }
+    {
+        self.written
+    }
+}
+
+impl Sink for Writer<'_> {
+    ghost use Rattle.text.specs.Lent.{unwritten, Written};
+    ghost use Rattle.text.specs.Laws.{writer_laws};
+
+    ghost room = { unwritten };
+
+    ghost Took = { Written };
+
+    ghost laws = { writer_laws };
+
+    #[tactic(auto, using(crate::proofs::Placed::placed))]
+    fn word(&mut self, word: &[u8]) {
+        let end = self.written + word.len();
+        self.out[self.written..end].copy_from_slice(word);
+        self.written = end;
+    }
+
+    #[tactic(auto, using(crate::proofs::Digits::digits_decimal))]
+    fn number(&mut self, n: u64) {
+        let mut digits = [0u8; MOST_DIGITS];
+        let k = io::decimal(n, &mut digits);
+        self.word(&digits[..k]);
+    }
 }

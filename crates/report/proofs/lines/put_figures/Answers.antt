@@ -1,8 +1,9 @@
--- The figures' lines are put one after the other, which is putting all of them.
-use Rattle.text.proofs.Putting.{and_then}
+-- The figures' lines are handed over one after the other, which is handing over all of them.
+use Rattle.text.proofs.Pieces.{and_then}
 use Rattle.report.proofs.lines.put_figures.Goals as goal
 
 pub returns : goal.returns
-returns c =
-    let judged = and_then c.put_line-measured.ensures c.put_verdict-judged.ensures in
-    and_then (and_then judged c.put_line-levelled.ensures) c.put_working.ensures
+returns g c =
+    let laws = g.met.S.Sink.laws in
+    let judged = and_then laws c.put_line.ensures c.put_verdict.ensures in
+    and_then laws (and_then laws judged c.put_line-2.ensures) c.put_working.ensures

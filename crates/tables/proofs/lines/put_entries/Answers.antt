@@ -1,12 +1,16 @@
--- Each entry is put where the last ended, and all of them together have room.
-use Rattle.text.proofs.Pieces.{none, capacity, more}
+-- Each entry is handed over, and all of them together have room.
+use Rattle.std.proofs.Common.{arith}
+use Rattle.text.proofs.Pieces.{none, roomy, more, all}
 use Rattle.tables.proofs.lines.put_entries.Goals as goal
 
-pub loop-i-init : goal.loop-i-init
-loop-i-init c = none c.requires.factors_in_bounds
+pub loop-factor-init : goal.loop-factor-init
+loop-factor-init g c = none g.met.S.Sink.laws c.requires.fits
 
-pub put_entry-at-requires-clause-factor_in_bounds : goal.put_entry-at-requires-clause-factor_in_bounds
-put_entry-at-requires-clause-factor_in_bounds c = capacity c.loop-i.invariant c.loop-i-test.true
+pub put_entry-requires-clause-fits : goal.put_entry-requires-clause-fits
+put_entry-requires-clause-fits g c = roomy g.met.S.Sink.laws c.loop-factor.invariant (omega arith)
 
-pub loop-i-preserved : goal.loop-i-preserved
-loop-i-preserved c = more c.loop-i.invariant c.loop-i-test.true c.put_entry-at.ensures
+pub loop-factor-preserved : goal.loop-factor-preserved
+loop-factor-preserved g c = more g.met.S.Sink.laws c.loop-factor.invariant (omega arith) c.put_entry.ensures
+
+pub returns : goal.returns
+returns g c = all g.met.S.Sink.laws c.loop-factor.invariant (omega arith)

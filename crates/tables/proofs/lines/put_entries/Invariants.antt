@@ -1,7 +1,7 @@
--- After i turns the entries of the first i factors are written.
-use Rattle.text.proofs.Pieces.{Writing}
+-- After i turns the entries of the first i factors are handed over.
+use Rattle.text.proofs.Pieces.{Handed}
 use Rattle.tables.specs.Table.{spaced_entry}
 use Rattle.tables.proofs.lines.put_entries.Given as goal
 
-abbrev pub invariant-loop-i : goal.invariant-loop-i
-invariant-loop-i l = Writing spaced_entry l.factors l.fn.out l.start l.i l.out l.at
+abbrev pub invariant-loop-factor : goal.invariant-loop-factor
+invariant-loop-factor g l = Handed g.S.Sink.room g.S.Sink.Took spaced_entry l.factors l.fn.sink l.factor-index l.sink

@@ -1,7 +1,7 @@
--- After i turns the lines of the first i rates are written.
-use Rattle.text.proofs.Pieces.{Writing}
+-- After i turns the lines of the first i rates are handed over.
+use Rattle.text.proofs.Pieces.{Handed}
 use Rattle.tables.specs.Table.{rate_line}
 use Rattle.tables.proofs.lines.put_rate_lines.Given as goal
 
-abbrev pub invariant-loop-i : goal.invariant-loop-i
-invariant-loop-i l = Writing (rate_line l.book) l.rates l.fn.out 0 l.i l.out l.at
+abbrev pub invariant-loop-rate : goal.invariant-loop-rate
+invariant-loop-rate g l = Handed g.S.Sink.room g.S.Sink.Took (rate_line l.book) l.rates l.fn.sink l.rate-index l.sink
