@@ -1,7 +1,7 @@
 -- The number that a caller in another language gets: that of the call's own answer, the answer itself where it is not negative, and
 -- minus the number of the refusal otherwise.
 use Rattle.refusals.specs.Grounds.{answer_number}
-use Rattle.std.specs.Prelude.{ℕ, List, ℤ, pos}
+use Rattle.std.specs.Prelude.{ℕ, List, ℤ, pos, unwrap_or}
 use Rattle.balance.specs.Factors.{factor_answer}
 use Rattle.minutes.specs.Periods.{periods_answer}
 use Rattle.text.specs.Answered.{length_written}
@@ -16,7 +16,7 @@ factors_number v book capacity = answer_number (factor_answer v book capacity)
 -- What the report call answers for a job and so many places: the length of the report, which is one line where the job is
 -- refused, or 0 where there is no room for it.
 abbrev pub report_number : List ℕ → ℕ → ℤ
-report_number job capacity = pos (length_written (report_of job) capacity)
+report_number job capacity = pos (unwrap_or (length_written (report_of job) capacity) 0)
 
 -- What the table call answers for a list of rates, a book and so many places.
 abbrev pub table_number : List ℕ → List ℕ → ℕ → ℤ

@@ -14,8 +14,9 @@ pub(crate) fn table_length(rates: &[u32], book: &[u8]) -> usize
 {
     // A space and an entry for each member, and a line feed.
     let entries = member_count(book) as usize * (1 + ENTRY_LENGTH) + 1;
-    rates
-        .iter()
-        .map(|rate| decimal_length(u64::from(*rate)) + entries)
-        .sum()
+    let mut total = 0;
+    for rate in rates {
+        total += decimal_length(u64::from(*rate)) + entries;
+    }
+    total
 }

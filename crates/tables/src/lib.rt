@@ -17,7 +17,7 @@ use checks::check_table;
 use lengths::table_length;
 pub use limits::{MAX_RATES, TABLE_ROOM};
 use lines::put_rate_lines;
-use refusals::{Refusal, refuse_if};
+use refusals::Refusal;
 pub use source_rates::SOURCE_RATES;
 use text::Writer;
 
@@ -32,15 +32,15 @@ pub fn tabulate(rates: &[u32], book: &[u8], out: &mut [u8]) -> Result<usize, Ref
 }
 
 // The text's length is known before a byte is written.
+#[tactic(auto, using(text::proofs::Whole::lent))]
 fn write_table(rates: &[u32], book: &[u8], out: &mut [u8]) -> Result<usize, Refusal>
     requires { Tabulable rates.now book.now }
     ensures answered { result ≡ fitting_answer (table_text book.now rates.now) (length out.old) }
     ensures written { out.new ≡ bytes_written (table_text book.now rates.now) out.old }
 {
-    refuse_if(
-        out.len() < table_length(rates, book),
-        Refusal::BufferTooShort,
-    )?;
+    if out.len() < table_length(rates, book) {
+        return Err(Refusal::BufferTooShort);
+    }
     let mut writer = Writer::new(out);
     put_rate_lines(&mut writer, rates, book);
     Ok(writer.length())
