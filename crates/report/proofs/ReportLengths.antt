@@ -4,14 +4,16 @@ use Prim.Native.Nat.{ℕ, ◌+◌, ◌*◌, ◌^◌, ◌≤◌, ◌<◌}
 use native.Mathlib.Omega.{arith}
 use mathlib.Core.Path.{◌≡◌, refl}
 use mathlib.Core.List.{List, ◌++◌}
-use lib.ListN.{length, length-append, length-take, take, get_or}
+use lib.ListN.{length, length-append, length-take, take}
+use Rattle.std.proofs.lemmas.List.{take_min}
 use Rattle.std.specs.Prelude.{Option, None, Some}
 use Rattle.book.specs.Limits.{max_members}
 use Rattle.text.specs.Words.{decimal}
 use Rattle.text.proofs.Digits.{decimal_at_most}
 use Rattle.text.proofs.Pieces.{each_at_most}
 use Rattle.refusals.specs.Grounds.{refusal_number}
-use Rattle.report.specs.Report.{factor_line, factor_lines, verdict_line, working_lines, figure_lines, refused_line, text_of}
+use Rattle.report.specs.Report.{factor_line, factor_lines, verdict_line, working_lines}
+use Rattle.report.specs.Report.{figure_lines, refused_line, text_of}
 use Rattle.report.specs.Report.{factor_line_room, working_room, figures_room, report_room}
 use Rattle.screening.specs.declared.job.Figures.{Figures}
 use Rattle.screening.specs.declared.job.Answer.{Answer}
@@ -60,7 +62,8 @@ unfolding text_of
 lines_at_most (Ok answer) few =
     let factors = take answer.count answer.factors in
     let both = length-append (factor_lines factors) (figure_lines answer.figures) in
-    omega (arith, length-take answer.count answer.factors, few answer refl, factor_lines_at_most factors, figures_at_most answer.figures)
+    let figures = figures_at_most answer.figures in
+    omega (arith, length-take answer.count answer.factors, few answer refl, factor_lines_at_most factors)
 lines_at_most (Err refusal) few =
     simp length-append (omega (arith, decimal_at_most (refusal_number refusal)))
 
@@ -81,3 +84,6 @@ screened_within_a_word factors n figures few =
 
 pub refused_within_a_word : (refusal : Refusal) → length (refused_line refusal) < 2 ^ 64
 refused_within_a_word refusal = simp length-append (omega (arith, decimal_at_most (refusal_number refusal)))
+
+-- What the writing of an answer reads.
+pub ruleset answering = (take_min, refused_within_a_word)

@@ -11,7 +11,7 @@ use text::{Sink, Text, write_whole};
 
 // What `screen` writes of an answer, to the start of `out`, and its length; where there is no room for all of it none,
 // with `out` as it was.
-#[tactic(auto, using(std::proofs::lemmas::List::take_min, crate::proofs::ReportLengths::refused_within_a_word), unfolding(crate::specs::Report::text_of))]
+#[tactic(auto, using(crate::proofs::ReportLengths::answering), unfolding(crate::specs::Report::text_of))]
 pub fn write_answer(answered: Result<Answer, Refusal>, out: &mut [u8]) -> Option<usize>
     ensures answered { result ≡ length_written (text_of answered) (length out.old) }
     ensures written { out.new ≡ bytes_written (text_of answered) out.old }

@@ -1,10 +1,10 @@
 // The lines of a report, each handed to a sink.
 ghost use Rattle.std.specs.Prelude.{◌≤◌, ◌≡◌, length};
 ghost use Rattle.text.specs.Words.{ascii};
-ghost use Rattle.report.specs.Report.{factor_line, factor_lines, verdict_line, verdict_word, working_lines, figure_lines};
-ghost use Rattle.report.specs.Report.{refused_line};
+ghost use Rattle.report.specs.Report.{factor_line, factor_lines, verdict_line, verdict_word, working_lines};
+ghost use Rattle.report.specs.Report.{figure_lines, refused_line};
 
-use refusals::{Refusal, refusal_number};
+use refusals::Refusal;
 use screening::{Figures, Verdict, WorkingLevels};
 use text::{Sink, put_line};
 
@@ -74,5 +74,5 @@ pub(crate) fn put_refusal<S: Sink>(sink: &mut S, refusal: Refusal)
     requires { length (refused_line refusal) ≤ S.room sink.old }
     ensures { S.Took sink.old (refused_line refusal) sink.new }
 {
-    put_line(sink, b"refused ", refusal_number(refusal));
+    put_line(sink, b"refused ", u64::from(refusal));
 }

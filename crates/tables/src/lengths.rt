@@ -7,6 +7,7 @@ use book::member_count;
 use entry::ENTRY_LENGTH;
 use text::decimal_length;
 
+// Counted by itself: handing the lines to a sink that counts would work out the factors of each twice.
 #[tactic(auto, using(crate::proofs::Measured::counting))]
 pub(crate) fn table_length(rates: &[u32], book: &[u8]) -> usize
     requires { Tabulable rates.now book.now }

@@ -1,6 +1,7 @@
 -- A text handed to a writer at the start of its list is the first bytes of the list, and the other bytes are as they
 -- were. One that has no room is not written.
-use Rattle.std.proofs.Common.{ℕ, ◌≤◌, ◌<◌, ◌≡◌, Option, Some, None, List, ◌++◌, length, take, drop, arith, length-append, refl, ap, sym, ◌∙◌, lt-ltb, le-ltb}
+use Rattle.std.proofs.Common.{ℕ, ◌≤◌, ◌<◌, ◌≡◌, Option, Some, None, List, ◌++◌, length, take, drop}
+use Rattle.std.proofs.Common.{arith, length-append, refl, ap, sym, ◌∙◌, lt-ltb, le-ltb}
 use Rattle.std.proofs.lemmas.List.{take-append-drop, take_at}
 use Rattle.io.specs.Counts.{IsPrefixLen}
 use Rattle.text.specs.declared.Writer.{Writer}
@@ -39,8 +40,7 @@ module _ (text list : List ℕ) where
       let size : after.written ≡ length text = omega (arith, put.place) in
       let front : take after.written after.out.now ≡ text = put.text ∙ ap (λ n. take n before.out.now ++ text) start in
       let back : drop after.written after.out.now ≡ drop (length text) list =
-          put.rest ∙ ap (λ n. drop n before.out.now) size ∙ ap (drop (length text)) same in
-      (
+      put.rest ∙ ap (λ n. drop n before.out.now) size ∙ ap (drop (length text)) same in (
         size,
         sym (take-append-drop after.written after.out.now)
             ∙ ap (λ bytes. bytes ++ drop after.written after.out.now) front

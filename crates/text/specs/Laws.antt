@@ -1,5 +1,6 @@
 -- The laws of the two sinks.
-use Rattle.std.proofs.Common.{ℕ, ◌+◌, ◌-◌, ◌≡◌, List, ◌++◌, take, drop, arith, refl, sym, ap, ◌∙◌, length, length-append, append_assoc, append-nil}
+use Rattle.std.proofs.Common.{ℕ, ◌+◌, ◌-◌, ◌≡◌, List, [], ◌++◌, take, drop, length}
+use Rattle.std.proofs.Common.{arith, refl, sym, ap, ◌∙◌, length-append, append_assoc, append-nil}
 use Rattle.std.proofs.lemmas.List.{length-drop, drop-drop}
 use Rattle.text.specs.declared.Writer.{Writer}
 use Rattle.text.specs.Sinks.{SinkLaws}
@@ -31,13 +32,22 @@ both_written s t u a b p q =
 less_unwritten : (s t : Writer) (a : List ℕ) → Written s a t → unwritten t ≡ unwritten s - length a
 less_unwritten s t a p =
     let left : length t.out.now - t.written ≡ length s.out.now - t.written =
-        sym (length-drop t.written t.out.now) ∙ ap length p.rest ∙ length-drop t.written s.out.now in
+    sym (length-drop t.written t.out.now) ∙ ap length p.rest ∙ length-drop t.written s.out.now in
     omega (arith, p.place)
+
+nothing_written : (s : Writer) → Written s [] s
+nothing_written s =
+    record {
+      same_list = refl;
+      place = omega arith;
+      text = sym (append-nil (take s.written s.out.now));
+      rest = refl;
+    }
 
 pub writer_laws : SinkLaws unwritten Written
 writer_laws =
     record {
-      nothing = λ s. record { same_list = refl; place = omega arith; text = sym (append-nil (take s.written s.out.now)); rest = refl };
+      nothing = nothing_written;
       both = both_written;
       less = less_unwritten;
     }

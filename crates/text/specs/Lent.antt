@@ -1,5 +1,5 @@
 -- A text in a lent list of bytes.
-use Rattle.std.specs.Prelude.{ℕ, ◌+◌, ◌-◌, ◌≡◌, Option, Some, None, cond, List, ◌++◌, length, take, drop, ltb}
+use Rattle.std.specs.Prelude.{ℕ, ◌+◌, ◌-◌, ◌≡◌, List, ◌++◌, length, take, drop}
 use Rattle.text.specs.declared.Writer.{Writer}
 
 -- How many bytes the list has after what is written.

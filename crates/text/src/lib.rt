@@ -10,11 +10,12 @@ ghost use Rattle.text.specs.Answered.{length_written, bytes_written};
 // No number of 64 bits has more decimal digits.
 pub const MOST_DIGITS: usize = 20;
 
+// What a text is handed to.
 pub trait Sink {
     // How many more bytes it takes.
     ghost room: { Self → ℕ };
 
-    // It was handed the text, and has become the second.
+    // The first was handed the text, and has become the second.
     ghost Took: { Self → List ℕ → Self → Type 0 };
 
     fn word(&mut self, word: &[u8])
@@ -47,16 +48,17 @@ pub trait Text {
         ensures { S.Took sink.old (bytes self.now) sink.new };
 }
 
-// All of a text, to the start of `out`, and its length; where there is no room for all of it none, with `out` as it was.
+// All of a text, to the start of `out`, and its length; where there is no room for all of it none, with `out` as it
+// was.
 #[tactic(auto, using(crate::proofs::Whole::lent))]
 pub fn write_whole<T: Text>(text: &T, out: &mut [u8]) -> Option<usize>
     requires { length (T.bytes text.now) < 2 ^ 64 }
     ensures answered { result ≡ length_written (T.bytes text.now) (length out.old) }
     ensures written { out.new ≡ bytes_written (T.bytes text.now) out.old }
 {
-    let mut counter = Counter::new();
+    let mut counter = Counter { bytes: 0 };
     text.put(&mut counter);
-    if out.len() < counter.bytes() {
+    if out.len() < counter.bytes {
         return None;
     }
     let mut writer = Writer::new(out);
@@ -66,22 +68,8 @@ pub fn write_whole<T: Text>(text: &T, out: &mut [u8]) -> Option<usize>
 
 // Counts the bytes.
 #[derive(Drop)]
-pub struct Counter {
+struct Counter {
     bytes: usize,
-}
-
-impl Counter {
-    pub fn new() -> Counter
-        ensures { result.bytes ≡ 0 }
-    {
-        Counter { bytes: 0 }
-    }
-
-    pub fn bytes(&self) -> usize
-        ensures { result ≡ self.now.bytes }
-    {
-        self.bytes
-    }
 }
 
 impl Sink for Counter {

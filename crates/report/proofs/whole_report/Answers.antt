@@ -1,5 +1,5 @@
 -- No report is longer than the room, so all of it is written.
-use Rattle.std.proofs.Common.{arith, rules, length, ◌≡◌, ◌≤◌, ◌∙◌, sym, Some}
+use Rattle.std.proofs.Common.{arith, rules, length, ◌≡◌, ◌≤◌, ◌∙◌, sym}
 use Rattle.text.proofs.Whole.{first, roomy_answer, roomy_bytes}
 use Rattle.report.specs.Report.{report_of}
 use Rattle.report.proofs.ReportFits.{report_fits}

@@ -1,4 +1,5 @@
--- The word, the member's number and the rest of the line are handed over one after the other, which is handing the line.
+-- The word, the member's number and the rest of the line are handed over one after the other, which is handing over the
+-- line.
 use Rattle.text.proofs.Pieces.{and_then}
 use Rattle.report.proofs.lines.put_factor_line.Goals as goal
 
