@@ -15,8 +15,10 @@ const BOOK: [u8; 80] = [
 // Po-218's factor at a rate, in grains; 0 where the call refuses.
 fn factor_at(v: u32) -> u64 {
     let mut factors = [0u64; 2];
-    balance::factors(v, &BOOK, &mut factors);
-    factors[1]
+    match balance::factors(v, &BOOK, &mut factors) {
+        Ok(_) => factors[1],
+        Err(_) => 0,
+    }
 }
 
 fn main(rt: HostRuntime) -> io::Result<()> {
