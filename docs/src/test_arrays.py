@@ -43,11 +43,9 @@ LISTED = {
     | {f"let mut coefficients = [0u32; {NUMBERS}]"},
     "book/src/checks/shares.rt": {"sums: &mut [u64; MAX_MEMBERS]", "let mut sums = [0u64; MAX_MEMBERS]"},
     "book/src/checks/walk.rt": {"counts: &mut [u8; 256]", "let mut counts = [0u8; 256]"},
-    "wide/src/arithmetic.rt": {"a: [u32; 6]", "b: [u32; 6]", "-> [u32; 6]", "[low(x), upper(x), 0, 0, 0, 0]"},
-    "wide/src/columns.rt": {"pub limbs: [u32; 6]"}
-    | {"let limbs = [low(c0), low(d1), low(d2), low(d3), low(d4), low(d5)]"},
-    "wide/src/order.rt": {"a: [u32; 6]", "b: [u32; 6]"},
-    "wide/src/quotient.rt": {"a: [u32; 6]", "b: [u32; 6]"},
+    "numbers/src/bytes.rt": {"-> [u8; N]"},
+    "wide/src/columns.rt": {"let limbs = [low(d5), low(d4), low(d3), low(d2), low(d1), low(c0)]"},
+    "wide/src/number.rt": {"limbs: [u32; 6]", "limbs: [0, 0, 0, 0, upper(x), low(x)]"},
 }
 
 
@@ -84,7 +82,7 @@ def arrays(text):
     """The array types and array literals, each with what stands before it in its parameter, field or statement."""
     for before, found in brackets(text):
         index = re.search(r"((^|[^'\w])\w+|[)\]])$", before) and not re.search(r"\b(mut|return|in|else)$", before)
-        slice_type = re.search(r"&('\w+ )?(mut)?$", before) and re.fullmatch(r"\[\w+\]", found)
+        slice_type = re.search(r"&('\w+)?( ?mut)?$", before) and re.fullmatch(r"\[\w+\]", found)
         if not index and not slice_type and not before.endswith(("#", "#!")):
             place = " ".join(re.search(r"[^,;(){}]*$", before)[0].split())
             yield f"{place} {found}".strip().replace("& [", "&[")
@@ -222,7 +220,7 @@ PLANTED = [
     (PASSING, NEW, "chain.half_lives[i] = new_factor("),
     ("book/src/held.rt", "pub members: usize,", "pub members: usize, pub factors: [u64; MAX_MEMBERS],"),
     ("book/src/checks/walk.rt", "[0u8; 256]", "[0u64; 256]"),
-    ("book/src/checks/shares.rt", "let mut found", "let mut factors = [0u64; MAX_MEMBERS]; let mut found"),
+    ("book/src/checks/shares.rt", "some_below(", "let mut factors = [0u64; MAX_MEMBERS]; some_below("),
     ("wide/src/division.rt", PRODUCT, f"pub fn spare() -> [u64; 16] {{ zeros() }} {PRODUCT}"),
     ("wide/src/product.rt", "pub(crate) fn product(", "pub(crate) fn product(limbs: [u32; 6], "),
 ]
