@@ -2,14 +2,17 @@
 
     test_arrays.py
 
-Every place where these crates write an array type or an array literal must be on the list below. A factor takes 41
-bits, so an array of narrower elements holds none; those with wider elements are the half-lives and the sums of the
-shares, in the crate of the book, which works out no factor. The crates that do own no array, and have every other lent,
-or held in a chain. They write to the lent list alone, so a chain that they are handed keeps what was read into it. What
-the search would miss is tried too: spare lists, put into the source in several ways, must each be found. Prints the
-arrays that each call meets on its way, with their bytes.
+Every place where these crates write an array type or an array literal, or have a function make an array, must be on
+the lists below. A factor takes 41 bits, so an array of narrower elements holds none; of a struct the fields are looked
+up in the source, and of another name of a type what it stands for. Those with wider elements are the half-lives and the
+sums of the shares, in the crate of the book, which works out no factor, and the columns of a wide number, which neither
+call reaches. The crates that do work out factors own no array, and have every other lent, or held in a chain. They
+write to the lent list alone, and a chain they only read from a book, accept, ask and hand on, so that it keeps what was
+read into it. What the search would miss is tried too: spare lists, put into the source in several ways, must each be
+found. Prints the arrays that each call meets on its way, with their bytes.
 """
 
+import functools
 import math
 import pathlib
 import re
@@ -23,30 +26,56 @@ CALLS = {"the factor call": ("balance", "factors"), "the call for periods": ("mi
 FACTOR_BITS = 41
 WIDTHS = {"u8": 8, "u16": 16, "u32": 32, "u64": 64, "usize": 64, "i64": 64, "f64": 64, "bool": 8}
 
-# The arrays of the chain that is held, and who may name it in the crates that work out factors.
-CHAIN = {
-    "half_lives": ("u64", "MAX_MEMBERS"),
-    "ends": ("u8", "MAX_MEMBERS"),
-    "shares": ("u32", "MAX_FEEDS"),
-    "froms": ("u8", "MAX_FEEDS"),
-}
-FEEDS = {name: array for name, array in CHAIN.items() if name != "half_lives"}
-HANDED = r"chain: &?HeldChain,|use book::\{HeldChain, "
-NUMBERS = "COEFFICIENTS * MAX_MEMBERS"
-WIDE_LISTS = r"(pub |let mut )?(half_lives|sums)\b|list: &mut "
+# The arrays whose elements are too narrow for a factor.
 LISTED = {
-    "balance/src/feeds.rt": {f"{name}: &[{element}; {size}]" for name, (element, size) in FEEDS.items()},
-    "book/src/held.rt": {f"pub {name}: [{element}; {size}]" for name, (element, size) in CHAIN.items()}
-    | {f"let mut {name} = [0{element}; {size}]" for name, (element, size) in CHAIN.items()}
-    | {f"{name}: &mut [{element}; {size}]" for name, (element, size) in FEEDS.items()}
-    | {"list: &mut [u64; MAX_MEMBERS]", f"list: &mut [u32; {NUMBERS}]", f"pub coefficients: [u32; {NUMBERS}]"}
-    | {f"let mut coefficients = [0u32; {NUMBERS}]"},
-    "book/src/checks/shares.rt": {"sums: &mut [u64; MAX_MEMBERS]", "let mut sums = [0u64; MAX_MEMBERS]"},
+    "book/src/chain.rt": {"pub ends: [u8; MAX_MEMBERS]", "pub feeds: [Feed; MAX_FEEDS]"},
+    "book/src/held.rt": {
+        "ends: &mut [u8; MAX_MEMBERS]",
+        "let mut ends = [0u8; MAX_MEMBERS]",
+        "feeds: &mut [Feed; MAX_FEEDS]",
+        "let mut feeds = [Feed { share: 0, from: 0 }; MAX_FEEDS]",
+    },
+    "book/src/layout.rt": {"pub type Coefficients = [u32; COEFFICIENTS]"},
+    "book/src/coefficients.rt": {
+        "pub coefficients: [Coefficients; MAX_MEMBERS]",
+        "let mut coefficients = [[0u32; COEFFICIENTS]; MAX_MEMBERS]",
+        "[0u32; COEFFICIENTS]",
+    },
     "book/src/checks/walk.rt": {"counts: &mut [u8; 256]", "let mut counts = [0u8; 256]"},
     "numbers/src/bytes.rt": {"-> [u8; N]"},
-    "wide/src/columns.rt": {"let limbs = [low(d5), low(d4), low(d3), low(d2), low(d1), low(c0)]"},
-    "wide/src/number.rt": {"limbs: [u32; 6]", "limbs: [0, 0, 0, 0, upper(x), low(x)]"},
+    "wide/src/number.rt": {"limbs: [u32; 6]"},
 }
+
+# The columns of a wide number and the limbs that they become. Neither call reaches them.
+COLUMNS = {
+    "wide/src/columns.rt": {"columns: [u64; 6]", "let mut limbs = [0; 6]"},
+    "wide/src/arithmetic.rt": {
+        "let settled = settle(from_fn(|i| limb_sum(a[i], b[i])))",
+        "settle(from_fn(|i| limb_product(a[i], k)))",
+    },
+}
+
+# The arrays with wider elements, or that do not say how wide they are, and what they hold: half-lives, sums of shares,
+# a member's numbers, bytes and limbs.
+WIDE_LISTS = COLUMNS | {
+    "book/src/chain.rt": {"pub half_lives: [u64; MAX_MEMBERS]"},
+    "book/src/held.rt": {"let mut half_lives = [0u64; MAX_MEMBERS]"},
+    "book/src/checks/shares.rt": {"sums: &mut [u64; MAX_MEMBERS]", "let mut sums = [0u64; MAX_MEMBERS]"},
+    "book/src/fields.rt": {"from_fn(|which| coefficient_of(book, i, which as u16))"},
+    "numbers/src/bytes.rt": {"return from_fn(|k| bytes[at + k])", "from_fn(|k| byte_at(bytes, at + k))"},
+    "wide/src/number.rt": {"limbs: [0, 0, 0, 0, upper(x), low(x)]"},
+}
+
+# What the crates that work out factors take from the book besides its limits, and what they may do with a chain: take
+# it as a parameter, read it from a book, accept it, ask it and hand it on. One function is lent it before it is
+# accepted.
+TAKEN = {"AcceptedChain", "HeldChain", "Rate", "check_book", "member_count", "read_chain"}
+HANDED = (
+    r"\bchain: AcceptedChain<'_>(?=[,)])|\bfn factors_read\([\w\s:<>(),]*\bchain: &HeldChain<'_>(?=[,)])"
+    r"|\blet chain = read_chain\(book\);"
+    r"|\blet accepted = AcceptedChain \{ chain \};|\bAcceptedChain \{ chain: &chain \}(?=[,)])"
+    r"|\b(chain|accepted)\.(members|scale|half_life|feeds)\(|[(,]\s*&?(chain|accepted)(?=[,)])"
+)
 
 
 def bare(text):
@@ -78,14 +107,26 @@ def brackets(text):
             yield text[:start].rstrip(), " ".join(text[start : at + 1].split())
 
 
-def arrays(text):
+def made(text):
+    """The statements that have a function make an array."""
+    for statement in re.findall(r"[^;{}]*\bfrom_fn\b[^;{}]*", text):
+        if statement.strip() != "use std::array::from_fn":
+            yield " ".join(statement.split())
+
+
+def written_out(text):
     """The array types and array literals, each with what stands before it in its parameter, field or statement."""
     for before, found in brackets(text):
-        index = re.search(r"((^|[^'\w])\w+|[)\]])$", before) and not re.search(r"\b(mut|return|in|else)$", before)
+        index = re.search(r"((^|[^'\w])\w+|[)\]])$", before) and not re.search(r"\b(mut|return|break|in|else)$", before)
         slice_type = re.search(r"&('\w+)?( ?mut)?$", before) and re.fullmatch(r"\[\w+\]", found)
         if not index and not slice_type and not before.endswith(("#", "#!")):
-            place = " ".join(re.search(r"[^,;(){}]*$", before)[0].split())
+            place = " ".join(re.search(r"[^,;(){}[]*$", before)[0].split())
             yield f"{place} {found}".strip().replace("& [", "&[")
+
+
+@functools.cache
+def arrays(text):
+    return [*written_out(text), *made(text)]
 
 
 def functions(text):
@@ -131,7 +172,8 @@ def reached(texts, call):
 def complaints(texts):
     """What the search finds wrong, a line each."""
     found = {(path, array) for path, text in texts.items() for array in arrays(text)}
-    listed = {(path, array) for path, written in LISTED.items() for array in written}
+    lists = [*LISTED.items(), *WIDE_LISTS.items()]
+    listed = {(path, array) for path, written in lists for array in written}
     lines = [f"{path}: {array} is not on the list" for path, array in sorted(found - listed)]
     return lines + [f"{path}: {array} is on the list and not in the source" for path, array in sorted(listed - found)]
 
@@ -140,16 +182,44 @@ def count(texts, size):
     """How many elements an array's size is, by the constants of the book."""
     book = texts["book/src/limits.rt"] + texts["book/src/layout.rt"]
     constants = dict(re.findall(r"const (\w+): usize = (\d+);", book))
-    return math.prod(int(constants[name]) for name in size.split(" * "))
+    return math.prod(int(number) if number.isdigit() else int(constants[number]) for number in size.split(" * "))
+
+
+def stands_for(texts, name):
+    """The types that a name of the source stands for: a struct's fields, or the type that it is another name of."""
+    source = "\n".join(texts.values())
+    structs = re.findall(rf"\bstruct {name}\b[^;({{]*\{{\n(.*?)\n\}}", source, re.DOTALL)
+    fields = [re.findall(r"(?<!ghost )\b\w+: ((?:\[.*\]|[^,\n])+)", struct) for struct in structs]
+    return sum(fields, re.findall(rf"\btype {name} = (.*);", source))
+
+
+def widths(texts, element):
+    """The bits of each number of an element, by its type or a literal that names it. One that the source does not
+    explain is as wide as can be."""
+    array = re.fullmatch(r"\[(.*); ([^];]+)\]", element)
+    if array:
+        return widths(texts, array[1]) * count(texts, array[2])
+    name = re.match(r"\d*([A-Za-z]\w*)", element)
+    if name and name[1] in WIDTHS:
+        return [WIDTHS[name[1]]]
+    types = stands_for(texts, name[1]) if name else []
+    return [bits for each in types for bits in widths(texts, each)] or [math.inf]
+
+
+def size(texts, array):
+    """The bytes of an array. The numbers of an element have no gap between them, but may have one after them, so that
+    the next element's widest number stands where it may."""
+    element, _, length = array[1:-1].rpartition("; ")
+    bits = widths(texts, element)
+    aligned = math.ceil(sum(bits) / max(bits)) * max(bits)
+    return aligned // 8 * count(texts, length)
 
 
 def met(texts, call):
-    """The arrays that the functions on the way of a call own, and the bytes of each."""
+    """The arrays that the functions on the way of a call own by a name, and the bytes of each."""
     bodies = "".join(body for places in reached(texts, call).values() for _, body in places)
-    owned = {}
-    for name, element, size in re.findall(r"let mut (\w+) = \[0(\w+); ([^]]+)\]", bodies):
-        owned[name] = WIDTHS[element] // 8 * (int(size) if size.isdigit() else count(texts, size))
-    return owned
+    lets = (re.fullmatch(r"let (?:mut )?(\w+)(?:: | = )(\[.*\])", array) for array in arrays(bodies))
+    return {let[1]: size(texts, let[2]) for let in lets if let}
 
 
 def of_factors(path):
@@ -157,44 +227,75 @@ def of_factors(path):
     return path.split("/")[0] in {crate for crate, _ in CALLS.values()}
 
 
+def holds(texts, array):
+    """Whether an element of the array could hold a factor, as far as the array says."""
+    element = re.search(r"\[(.*); [^];]+\]$", array)
+    return not element or max(widths(texts, element[1])) >= FACTOR_BITS
+
+
 def wide(texts):
     """Arrays whose elements could hold a factor, and are not known to hold something else; and arrays that a crate of
     factors does not just read."""
     for path, text in texts.items():
         for array in arrays(text):
-            element = re.search(r"\[\d*([a-z]\w*);", array)
-            if element and WIDTHS.get(element[1], 0) >= FACTOR_BITS and not re.match(WIDE_LISTS, array):
+            if holds(texts, array) and array not in WIDE_LISTS.get(path, set()):
                 yield f"{path}: {array} has elements that hold a factor"
             if of_factors(path) and "&[" not in array:
                 yield f"{path}: {array} is not lent to be read"
 
 
+def columns(texts):
+    """The columns that a call reaches."""
+    for name, call in CALLS.items():
+        for path, body in sum(reached(texts, call).values(), []):
+            for array in COLUMNS.get(path, set()).intersection(arrays(body)):
+                yield f"{path}: {name} reaches {array}"
+
+
 def written(texts):
-    """What the crates that work out factors write to, or could keep a list in, besides the lent list."""
+    """What the crates that work out factors write to, or could keep a list in, besides the lent list. A number of their
+    own may change."""
     for path, text in texts.items():
         if not of_factors(path):
             continue
         for target in re.findall(r"([\w.]+)\s*\[[^]]*\]\s*[-+*/|&^%<>]*=(?!=)", text):
             if target != "out":
                 yield f"{path}: {target} is written to"
-        unlent = re.sub(r"out: &mut \[u64\]", "", text)
-        for found in re.findall(r"&(?:'\w+ )?mut\b.*|\b(?:Vec|Box|vec!|alloc)\b.*|(?<!let )\bmut \w+:.*", unlent):
-            yield f"{path}: {found}"
-        for found in re.findall(r".*\bHeld(?:Chain|Book)\b.*", re.sub(HANDED, "", text)):
+        unlent = re.sub(r"out: &mut \[u64\]|let mut \w+(: \w+)? = \d\w*;", "", text)
+        for found in re.findall(r".*(?:mut\b|\b(?:Vec|Box|vec|alloc)\b).*", unlent):
+            yield f"{path}: {found.strip()}"
+
+
+def chains(texts):
+    """What the crates that work out factors take from the book, or do with a chain, and may not."""
+    for path, text in texts.items():
+        if not of_factors(path):
+            continue
+        code = re.sub(r"#!?\[[^]]*\]", "", text)
+        for names in re.findall(r"\bbook::(\{[^}]*\}|\w+|\*)", code):
+            for name in re.findall(r"[^{},\s][^{},]*", names):
+                if name.strip() not in TAKEN and not name.isupper():
+                    yield f"{path}: {name.strip()} is taken from the book"
+        unlisted = re.sub(rf"{HANDED}|\buse book::[^;]*;", "", code)
+        for found in re.findall(r".*\b(?:AcceptedChain|Held\w+|read_\w+|chain|accepted)\b.*", unlisted):
             yield f"{path}: {found.strip()}: a chain is handed on, and not made"
 
 
 def wrong(texts):
-    return complaints(texts) + list(wide(texts)) + list(written(texts))
+    return [*complaints(texts), *wide(texts), *columns(texts), *written(texts), *chains(texts)]
 
 
 # Spare lists, each in a form of its own: (file, what is replaced, by what).
 FILL = "balance/src/fill.rt"
-FEEDS = "balance/src/feeds.rt"
+INFLOW = "balance/src/feeds.rt"
+READ = "balance/src/lib.rt"
 PASSING = "minutes/src/passing.rt"
 BEGUN = "out[0] = GRAINS;"
-HANDED_ON = "chain: &HeldChain, out: &mut [u64]"
+COPIED = "let mut spare = *chain.chain;"
+ACCEPTED = "chain: AcceptedChain<'_>"
+HANDED_ON = f"{ACCEPTED}, out: &mut [u64]"
 NEW = "out[i] = new_factor("
+ACCEPT = "AcceptedChain { chain"
 PRODUCT = "pub fn product_quotient("
 PLANTED = [
     (FILL, BEGUN, f"let mut spare = [0u64; 16]; {BEGUN}"),
@@ -202,26 +303,42 @@ PLANTED = [
     (FILL, BEGUN, f"let spare = [first, second]; {BEGUN}"),
     (FILL, BEGUN, f"let half_lives = [0u64; MAX_MEMBERS]; {BEGUN}"),
     (FILL, BEGUN, f"{BEGUN} return [0u64;\n 16];"),
+    (FILL, BEGUN, f"let spare = from_fn(|i| factor(i)); {BEGUN}"),
     (FILL, BEGUN, f"let mut spare = vec![in alloc; 0u64; 16]; {BEGUN}"),
     (FILL, BEGUN, f"let mut spare = Vec::new(room); {BEGUN}"),
-    (FILL, BEGUN, f"let mut spare = *chain; spare.half_lives[0] = GRAINS; {BEGUN}"),
-    (FILL, BEGUN, f"let mut spare = *chain; spare.half_lives[0] += GRAINS; {BEGUN}"),
-    (FILL, BEGUN, f"let mut spare = *chain; keep(&mut spare.half_lives, GRAINS); {BEGUN}"),
-    (FILL, BEGUN, f"let spare = HeldChain {{ half_lives: factors, ..*chain }}; {BEGUN}"),
+    (FILL, BEGUN, f"{COPIED} spare.half_lives[0] = GRAINS; {BEGUN}"),
+    (FILL, BEGUN, f"{COPIED} spare.half_lives[0] += GRAINS; {BEGUN}"),
+    (FILL, BEGUN, f"{COPIED} keep(&mut spare.half_lives, GRAINS); {BEGUN}"),
+    (FILL, BEGUN, f"{COPIED} spare.half_lives.fill(GRAINS); {BEGUN}"),
+    (FILL, BEGUN, f"let spare = HeldChain {{ half_lives: factors, ..*chain.chain }}; {BEGUN}"),
+    (FILL, BEGUN, f"let spare = chain.with_factor(0, GRAINS); {BEGUN}"),
+    (FILL, BEGUN, f"let spare = book::with_factor(chain, 0, GRAINS); {BEGUN}"),
     (FILL, "out: &mut [u64])", "out: &mut [u64], spare: &mut [u64; 16])"),
     (FILL, "out: &mut [u64])", "out: &mut [u64], spare: &mut [u64])"),
-    (FILL, "chain: &HeldChain", "chain: &mut HeldChain"),
-    (FEEDS, "froms: &[u8; MAX_FEEDS]", "froms: &mut [u8; MAX_FEEDS]"),
-    (FEEDS, "shares: &[u32; MAX_FEEDS]", "shares: &[u64; MAX_FEEDS]"),
+    (FILL, ACCEPTED, "chain: &mut AcceptedChain<'_>"),
+    (FILL, "{AcceptedChain, Rate}", "{AcceptedChain, HeldChain as Factors, Rate}"),
+    (INFLOW, ACCEPTED, f"{ACCEPTED}, feeds: &mut [Feed; MAX_FEEDS]"),
+    (INFLOW, ACCEPTED, f"{ACCEPTED}, shares: &[u64; MAX_FEEDS]"),
+    (READ, "chain: &HeldChain<'_>", "chain: &mut HeldChain<'_>"),
+    (READ, "let chain = read_chain(book);", "let mut chain = read_chain(book);"),
+    (READ, "book: &[u8], out", "chain: &HeldChain<'_>, out"),
+    (READ, ACCEPT, f"{ACCEPT}: &spare"),
     (PASSING, "begin(out, ", "let before = [0u64; MAX_MEMBERS]; begin(out, "),
     (PASSING, HANDED_ON, f"before: &[u64; MAX_MEMBERS], {HANDED_ON}"),
-    (PASSING, HANDED_ON, "mut chain: HeldChain, out: &mut [u64]"),
-    (PASSING, HANDED_ON, "chain: &mut HeldChain, out: &mut [u64]"),
-    (PASSING, NEW, "chain.half_lives[i] = new_factor("),
-    ("book/src/held.rt", "pub members: usize,", "pub members: usize, pub factors: [u64; MAX_MEMBERS],"),
+    (PASSING, HANDED_ON, "mut chain: HeldChain<'_>, out: &mut [u64]"),
+    (PASSING, HANDED_ON, "chain: &mut HeldChain<'_>, out: &mut [u64]"),
+    (PASSING, HANDED_ON, "chain: &HeldChain<'_>, out: &mut [u64]"),
+    (PASSING, NEW, "chain.chain.half_lives[i] = new_factor("),
+    (PASSING, f"{ACCEPT}: &chain", f"{ACCEPT}: &with_factor(chain, 0, GRAINS)"),
+    ("book/src/chain.rt", "pub members: usize,", "pub members: usize, pub factors: [u64; MAX_MEMBERS],"),
+    ("book/src/feed.rt", "pub share: u32,", "pub share: u64,"),
+    ("book/src/feed.rt", "pub from: u32,", "pub from: u32, pub factor: Option<u64>,"),
+    ("book/src/layout.rt", "Coefficients = [u32;", "Coefficients = [u64;"),
     ("book/src/checks/walk.rt", "[0u8; 256]", "[0u64; 256]"),
     ("book/src/checks/shares.rt", "some_below(", "let mut factors = [0u64; MAX_MEMBERS]; some_below("),
     ("wide/src/division.rt", PRODUCT, f"pub fn spare() -> [u64; 16] {{ zeros() }} {PRODUCT}"),
+    ("wide/src/division.rt", "first - room", "settle(factors); first - room"),
+    ("wide/src/arithmetic.rt", "let product = self", "let factors = keep(from_fn(|i| a[i])); let product = self"),
     ("wide/src/product.rt", "pub(crate) fn product(", "pub(crate) fn product(limbs: [u32; 6], "),
 ]
 

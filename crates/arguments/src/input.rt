@@ -7,12 +7,13 @@ use std::fs::File;
 use std::io;
 use std::io::Read;
 
-// The first `most` bytes that a reader has, or all where it has no more.
+// The first `most` bytes that a reader has, or all where it has no more. The bound is said of the Vec, which holds none.
 pub fn first_bytes<R: Read + Drop>(alloc: Global, reader: R, most: usize) -> io::Result<Vec<u8>>
     ensures within { IfOk result (λ bytes. vec_len bytes ≤ most) }
     ensures first { IfOk result (λ bytes. IfSome (R.remaining reader) (λ all. bytes.items ≡ take most all)) }
 {
     let mut bytes = Vec::new(alloc);
+    // A u64 has no `From<usize>`; the cast cuts nothing.
     reader.take(most as u64).read_to_end(&mut bytes)?;
     bytes.truncate(most);
     Ok(bytes)

@@ -40,8 +40,7 @@ pub fn read_number(word: &str, wanted: &str) -> Result<u32>
     }
 }
 
-// The numbers that the words write; the first that writes none is told, with what is wanted. A `for`: no lemma of std
-// says which list `try_collect` makes.
+// The numbers that the words write; the first that writes none is told, with what is wanted.
 pub fn read_numbers(rt: &HostRuntime, words: &[String], wanted: &str) -> Result<Vec<u32>>
     ensures { IfOk result (λ numbers.
         map Some numbers.items ≡ map (λ word. number_written (string_bytes word)) words.now) }

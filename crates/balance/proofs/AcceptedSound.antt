@@ -11,7 +11,8 @@ use borrow.Author.Tests.{leb-false}
 use Rattle.book.specs.Fields.{members, feed_count, scale_of, from, feeds_of}
 use Rattle.numbers.specs.Tests.{some_in}
 use Rattle.book.specs.BookGrounds.{walk, share_out, feed_not_from_lower, Accepted}
-use Rattle.balance.specs.Chain.{feed_of, chain_of}
+use Rattle.book.specs.Held.{feed_of}
+use Rattle.balance.specs.Chain.{chain_of}
 use Rattle.balance.specs.Sound.{Sound, FromBelow, shares_from, feeds_below}
 use Rattle.refusals.proofs.FirstMet.{neither}
 use Rattle.numbers.proofs.NoneMet.{none_below}

@@ -1,70 +1,52 @@
 -- Summing a member's inflow along its feeds: what is summed so far and the inflow of the feeds still ahead make the
 -- whole inflow. A turn moves the next feed from the second part to the first, so no partial sum is above the whole.
-use Prim.Native.Nat.{ℕ, zero, suc, ◌+◌, ◌-◌, ◌*◌, ◌<◌}
-use mathlib.Core.Path.{◌≡◌, refl, ◌∙◌, ap}
-use mathlib.Core.List.{List, map}
+use Prim.Native.Nat.{ℕ, zero, suc, ◌+◌, ◌*◌, ◌≤◌, ◌<◌}
+use mathlib.Core.Path.{◌≡◌, refl, ap, ◌∙◌}
+use mathlib.Core.List.{List, [], ◌∷◌, map}
+use native.Mathlib.Nat.{le_of_suc-le-suc}
 use native.Mathlib.Numerals.{add-one}
 use native.Mathlib.Omega.{arith}
-use lib.ListN.{length, get_or, take, drop}
+use lib.ListN.{length, get_or, drop, drop_of_length-le}
 use lib.Seq.{drop-cons}
-use Rattle.book.specs.Limits.{max_members, max_feeds}
-use Rattle.book.specs.Fields.{members, share, from, feeds_of}
-use Rattle.book.specs.Held.{feeds_in_order, FeedsHeld}
-use Rattle.book.specs.BookGrounds.{walk}
-use Rattle.book.proofs.Ranges.{Ranges, accepted_ranges}
-use Rattle.book.proofs.HeldFields.{end_held, share_held, from_held}
-use Rattle.balance.specs.Chain.{feed_of, chain_of}
+use Rattle.book.specs.Held.{feed_of, held_feeds}
+use Rattle.book.specs.BookGrounds.{Accepted}
+use Rattle.book.specs.declared.feed.Feed.{Feed}
+use Rattle.balance.specs.Chain.{chain_of}
+use Rattle.balance.specs.Sound.{FromBelow}
 use Rattle.balance.specs.Balance.{inflow}
 use Rattle.balance.specs.Inflow.{Fed}
-use Rattle.balance.specs.Private.FeedsBegin.{feeds_begin}
-use Rattle.balance.proofs.BookFeeds.{member_begins, member_ends, member_fits, member_part, place_within, place_from}
+use Rattle.balance.proofs.BookFeeds.{held_whole}
+use Rattle.balance.proofs.AcceptedSound.{accepted_sound}
 
--- The inflow of the feeds from place k on, up to `end`.
-abbrev pub ahead : List ℕ → List ℕ → ℕ → ℕ → ℕ
-ahead book factors end k = inflow factors (map (feed_of book) (take (end - k) (drop k (feeds_in_order book (members book)))))
+-- A feed of the list comes from one of the members that all of them come from.
+from_at : (n : ℕ) (feeds : List Feed) (k : ℕ) (other : Feed) → FromBelow n feeds → k < length feeds → (get_or feeds k other).from < n
+from_at n [] k other below l = absurd (omega arith)
+from_at n (feed ∷ feeds) zero other below l = below.0
+from_at n (feed ∷ feeds) (suc k) other below l = from_at n feeds k other below.1 (le_of_suc-le-suc l)
 
--- What a turn at place k reads: a place of the arrays, a member that has a factor, and the first of the feeds ahead.
-pub record Turn (book shares froms factors : List ℕ) (end k : ℕ) : Type 0 where
-  pub place : k < max_feeds
-  pub source : get_or froms k 0 < length factors
+-- Past the last none is ahead.
+pub none_ahead : (factors : List ℕ) (feeds : List Feed) (k : ℕ) → length feeds ≤ k → inflow factors (drop k feeds) ≡ 0
+none_ahead factors feeds k past = ap (inflow factors) (drop_of_length-le feeds past)
+
+-- What a turn at place k reads: a member that has a factor, and the first of the feeds ahead.
+pub record Turn (factors : List ℕ) (feeds : List Feed) (feed : Feed) (k : ℕ) : Type 0 where
+  pub source : feed.from < length factors
   pub next :
-      ahead book factors end k ≡ get_or shares k 0 * get_or factors (get_or froms k 0) 0 + ahead book factors end (k + 1)
+      inflow factors (drop k feeds) ≡ feed.share * get_or factors feed.from 0 + inflow factors (drop (k + 1) feeds)
 
-module _ {book : List ℕ} {i : ℕ} {factors : List ℕ} (given : Fed book i factors) where
-  ranges : Ranges book
-  ranges = accepted_ranges book given.accepted
+module _ {book : List ℕ} (accepted : Accepted book) {i : ℕ} {factors : List ℕ} (given : Fed book i factors) {feeds : List Feed} (held : feeds ≡ map (feed_of book) (held_feeds book i)) where
+  -- They are the chain's.
+  fed_feeds : feeds ≡ (chain_of book).feeds i
+  fed_feeds = held ∙ ap (map (feed_of book)) (held_whole book accepted i given.member)
 
-  pub fed_place : i < max_members
-  fed_place = omega (arith, given.member, ranges.members_count.to)
+  pub fed_inflow : inflow factors feeds ≡ inflow factors ((chain_of book).feeds i)
+  fed_inflow = ap (inflow factors) fed_feeds
 
-  module _ {ends shares froms : List ℕ} (held : FeedsHeld book ends shares froms) where
-    begins : (i : ℕ) → i < members book → feeds_begin ends i ≡ length (feeds_in_order book i)
-    unfolding feeds_in_order
-    begins zero l = refl
-    begins (suc i) l = end_held book ranges held i (omega arith)
-
-    start : feeds_begin ends i ≡ length (walk book i)
-    start = begins i given.member ∙ member_begins book given.accepted i given.member
-
-    stop : get_or ends i 0 ≡ length (walk book i) + length (feeds_of book i)
-    stop = end_held book ranges held i given.member ∙ member_ends book given.accepted i given.member
-
-    pub ahead_all :
-        ahead book factors (get_or ends i 0) (feeds_begin ends i) ≡ inflow factors ((chain_of book).feeds i)
-    ahead_all =
-        let many : get_or ends i 0 - feeds_begin ends i ≡ length (feeds_of book i) = omega (arith, start, stop) in
-        rw (many, start)
-        (ap (λ js. inflow factors (map (feed_of book) js)) (member_part book given.accepted i given.member))
-
-    pub turn : (k : ℕ) → k < get_or ends i 0 → Turn book shares froms factors (get_or ends i 0) k
-    turn k l =
-        let order = feeds_in_order book (members book) in
-        let within : k < length order = omega (arith, stop, member_fits book given.accepted i given.member) in
-        let fed : get_or froms k 0 ≡ from book (get_or order k 0) = from_held book ranges held k within in
-        let part : get_or shares k 0 ≡ share book (get_or order k 0) = share_held book ranges held k within in
-        let left : get_or ends i 0 - k ≡ suc (get_or ends i 0 - suc k) = omega arith in
-        record {
-          place = place_within book given.accepted k within;
-          source = omega (arith, fed, place_from book given.accepted k within, given.enough);
-          next = rw (fed, part, add-one k, left, drop-cons order k 0 within);
-        }
+  pub turn : (k : ℕ) (other : Feed) → k < length feeds → Turn factors feeds (get_or feeds k other) k
+  turn k other l =
+      let below : FromBelow i feeds = rw fed_feeds ((accepted_sound book accepted).from_lower i given.member) in
+      let lower : (get_or feeds k other).from < i = from_at i feeds k other below l in
+      record {
+        source = omega (arith, given.member, given.enough);
+        next = rw (drop-cons feeds k other l, add-one) refl;
+      }

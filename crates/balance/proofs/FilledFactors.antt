@@ -5,15 +5,11 @@ use mathlib.Core.Path.{◌≡◌, ◌∙◌}
 use mathlib.Core.List.{List, ◌++◌}
 use native.Mathlib.Nat.{mul-le-mul_right}
 use native.Mathlib.Omega.{arith}
-use lib.ListN.{length, get_or, set, drop}
-use Rattle.book.specs.Limits.{max_half_life}
+use lib.ListN.{length, set, drop}
 use Rattle.book.specs.Fields.{members, scale_of, half_life}
 use Rattle.book.specs.BookGrounds.{Accepted}
-use Rattle.book.specs.Held.{held_chain}
-use Rattle.book.specs.declared.held.HeldChain.{HeldChain}
 use Rattle.book.proofs.Filled.{Filled, filled_all}
 use Rattle.book.proofs.Ranges.{accepted_ranges}
-use Rattle.book.proofs.HeldFields.{half_life_held, scale_held}
 use Rattle.book.specs.Rates.{rates_at}
 use Rattle.book.proofs.Rates.{scale_positive, scale_within, rate_is}
 use Rattle.balance.specs.Chain.{chain_of}
@@ -25,7 +21,6 @@ use Rattle.balance.proofs.Reported.{kept_part}
 use Rattle.balance.proofs.FilledInOrder.{inflow_filled, next_filled, parent_filled, filled_in_order}
 use Rattle.balance.proofs.SoundFactors.{inflow_at_most_g}
 use Rattle.balance.proofs.AcceptedSound.{accepted_sound}
-use Rattle.balance.proofs.Quotients.{later_half_life}
 
 -- As much as a scale's worth of the parent's factor fits a word.
 pub word_holds : {scale amount : ℕ} → scale ≤ 1000000 → amount ≤ scale * G → amount < 2 ^ 64
@@ -37,16 +32,6 @@ module _ (book : List ℕ) (accepted : Accepted book) where
 
   some : 1 ≤ members book
   some = (accepted_ranges book accepted).members_count.from
-
-  pub scale_above : {chain : HeldChain} → chain ≡ held_chain book → 0 < chain.scale
-  scale_above read = rw (scale_held book (accepted_ranges book accepted) read) (scale_positive book)
-
-  module _ {i : ℕ} (l : i < members book) {chain : HeldChain} (read : chain ≡ held_chain book) where
-    lives : get_or chain.half_lives i 0 ≡ half_life book i
-    lives = half_life_held book (accepted_ranges book accepted) i l read
-
-    pub half_life_low : 1 ≤ i → get_or chain.half_lives i 0 ≤ max_half_life
-    half_life_low later = rw lives (later_half_life book accepted i l later)
 
   module _ (v : ℕ) where
     abbrev part : ℕ → ℕ → ℕ
@@ -80,16 +65,15 @@ module _ (book : List ℕ) (accepted : Accepted book) where
       pub fed : Fed book i now
       fed =
           record {
-            accepted = accepted;
             member = l;
             enough = omega (arith, h.capacity, h.size);
             fits = word_holds (scale_within book) (inflow_bound i later l h);
           }
 
       pub member_filled :
-          {chain : HeldChain} {summed factor : ℕ} → chain ≡ held_chain book → summed ≡ inflow now ((chain_of book).feeds i) →
-          factor ≡ summed / chain.scale * K / (K + v * get_or chain.half_lives i 0) →
+          {summed scale life factor : ℕ} → summed ≡ inflow now ((chain_of book).feeds i) → scale ≡ scale_of book → life ≡ half_life book i →
+          factor ≡ summed / scale * K / (K + v * life) →
           Filled (factor_at book v) list (members book) (i + 1) (set now i factor)
       unfolding reported
-      member_filled read sums made =
-          next_filled (chain_of book) part sound i later l l h (rw (sums, scale_held book (accepted_ranges book accepted) read, lives l read, rate_is book v i) at made)
+      member_filled sums scales lives made =
+          next_filled (chain_of book) part sound i later l l h (rw (sums, scales, lives, rate_is book v i) at made)

@@ -8,7 +8,8 @@ use lib.ListN.{length, get_or, set, drop, length-set, get_or-append}
 use lib.Seq.{set-set, drop-set-lt}
 use Rattle.book.specs.Held.{filled}
 use Rattle.book.proofs.Filled.{Filled, filled_none, filled_more}
-use Rattle.balance.specs.Chain.{Feed, Chain}
+use Rattle.book.specs.declared.feed.Feed.{Feed}
+use Rattle.balance.specs.Chain.{Chain}
 use Rattle.balance.specs.Sound.{FromBelow, Sound}
 use Rattle.balance.specs.Balance.{G, inflow, in_member_order}
 use Rattle.balance.proofs.Inflow.{inflow_of_list, inflow_same}

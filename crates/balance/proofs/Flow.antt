@@ -6,7 +6,8 @@ use native.Mathlib.Decide.{le_ind}
 use native.Mathlib.Omega.{arith}
 use mathlib.Core.Path.{◌≡◌}
 use mathlib.Core.List.{List, [], ◌∷◌, ◌++◌}
-use Rattle.balance.specs.Chain.{Feed, Chain}
+use Rattle.book.specs.declared.feed.Feed.{Feed}
+use Rattle.balance.specs.Chain.{Chain}
 use Rattle.balance.specs.Sound.{FromBelow, shares_from, feeds_below, Sound}
 use Rattle.balance.proofs.Inflow.{inflow_of, inflow_append}
 use Rattle.numbers.specs.Sums.{sum_below}

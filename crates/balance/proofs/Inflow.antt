@@ -6,7 +6,7 @@ use native.Mathlib.Omega.{arith}
 use mathlib.Core.Path.{◌≡◌, refl, ap}
 use mathlib.Core.List.{List, [], ◌∷◌, ◌++◌}
 use lib.ListN.{get_or}
-use Rattle.balance.specs.Chain.{Feed}
+use Rattle.book.specs.declared.feed.Feed.{Feed}
 use Rattle.balance.specs.Sound.{FromBelow}
 use Rattle.balance.specs.Balance.{inflow}
 

@@ -7,7 +7,7 @@ use mathlib.Core.Path.{◌≡◌, refl, sym, ◌∙◌}
 use mathlib.Core.List.{List, [], ◌∷◌}
 use lib.Dec.{eqb, eqb-zero-suc, eqb-suc-zero, eqb-suc-suc}
 use lib.ListN.{length}
-use Rattle.balance.specs.Chain.{Feed}
+use Rattle.book.specs.declared.feed.Feed.{Feed}
 use Rattle.balance.specs.Sound.{FromBelow, shares_from}
 use Rattle.book.specs.BookGrounds.{occurrences}
 use Rattle.balance.proofs.Inflow.{inflow_of}

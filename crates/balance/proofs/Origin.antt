@@ -11,7 +11,7 @@ use lib.Dec.{eqb}
 use borrow.Author.Tests.{eq-eqb}
 use Rattle.numbers.specs.Sums.{sum_below}
 use Rattle.numbers.proofs.Sums.{sum_mono}
-use Rattle.balance.specs.Chain.{Feed}
+use Rattle.book.specs.declared.feed.Feed.{Feed}
 use Rattle.balance.specs.Sound.{FromBelow, shares_from}
 use Rattle.balance.proofs.Inflow.{inflow_of}
 

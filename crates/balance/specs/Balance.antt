@@ -1,6 +1,7 @@
 -- The balance (document 01, "Balance"), over the share's scale and a rate for each member.
 use Rattle.std.specs.Prelude.{ℕ, zero, suc, ◌+◌, ◌*◌, ◌/◌, ◌^◌, List, [], ◌∷◌, ◌++◌, get_or}
-use Rattle.balance.specs.Chain.{Feed, Chain}
+use Rattle.book.specs.declared.feed.Feed.{Feed}
+use Rattle.balance.specs.Chain.{Chain}
 
 -- A grain is 2^-40 of the parent's activity; the parent has G grains.
 abbrev pub G : ℕ

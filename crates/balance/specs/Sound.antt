@@ -1,6 +1,7 @@
 -- What grounds 17 and 18 ensure of a book, in the chain's own terms.
 use Rattle.std.specs.Prelude.{ℕ, zero, suc, ◌+◌, ◌≤◌, ◌<◌, cond, List, [], ◌∷◌, ◌++◌, eqb}
-use Rattle.balance.specs.Chain.{Feed, Chain}
+use Rattle.book.specs.declared.feed.Feed.{Feed}
+use Rattle.balance.specs.Chain.{Chain}
 
 -- Every feed comes from a member below k.
 abbrev pub FromBelow : ℕ → List Feed → Type 0

@@ -45,6 +45,11 @@ coefficient_count = 5
 abbrev pub coefficient : List ℕ → ℕ → ℕ → ℕ
 coefficient book i which = u32_at book (member_at i + 8 + 4 * which)
 
+-- All five of member i.
+abbrev pub coefficients_of : List ℕ → ℕ → List ℕ
+coefficients_of book i =
+    coefficient book i 0 ∷ coefficient book i 1 ∷ coefficient book i 2 ∷ coefficient book i 3 ∷ coefficient book i 4 ∷ []
+
 abbrev pub first_feed : List ℕ → ℕ → ℕ
 first_feed book i = u8_at book (member_at i + 28)
 

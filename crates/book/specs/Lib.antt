@@ -3,4 +3,5 @@ pub mod Fields
 pub mod Rates
 pub mod BookGrounds
 pub mod Held
+pub mod Holding
 pub mod Private

@@ -1,5 +1,4 @@
 // The checks of a chain book, grounds 9 to 18.
-mod bools;
 mod feeds;
 mod members;
 mod order;

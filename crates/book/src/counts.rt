@@ -1,4 +1,4 @@
-// The counts of a book, in the type of the fields' indices.
+// The counts of a book, in the type of the fields' indices; it is wider than a count, so that the range is said.
 ghost use Rattle.std.specs.Prelude.{◌≡◌, ◌<◌, ◌^◌};
 ghost use Rattle.book.specs.Fields.{members, feed_count};
 

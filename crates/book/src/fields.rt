@@ -1,11 +1,15 @@
-// The fields of a chain book's members and feeds. An index has 16 bits, so that every offset fits 32.
+// The fields of a chain book's members and feeds. An index has 16 bits, so that every offset fits 32. Book and index stay
+// two parameters, as in the definitions: a struct of both would be made anew for each index, and clauses name both anyway.
 ghost use Rattle.std.specs.Prelude.{◌≡◌, ◌<◌, ◌+◌, ◌^◌};
 ghost use Rattle.numbers.specs.Bytes.{u8_at};
-ghost use Rattle.book.specs.Fields.{member_at, half_life, coefficient, first_feed, feed_at, share, from, next};
+ghost use Rattle.book.specs.Fields.{member_at, half_life, coefficient, coefficients_of, first_feed, feed_at, share, from, next};
 
 use super::counts::member_count;
-use super::layout::{FEED_LENGTH, FIRST, FROM, HEADER_LENGTH, MEMBER_LENGTH, NEXT, NUMBERS};
+use super::layout::{
+    Coefficients, FEED_LENGTH, FIRST, FROM, HEADER_LENGTH, MEMBER_LENGTH, NEXT, NUMBERS,
+};
 use numbers::{u8_at, u32_at, u64_at};
+use std::array::from_fn;
 
 // Members count from 0 and follow the header.
 pub(crate) fn member_at(i: u16) -> u32
@@ -25,6 +29,14 @@ pub(crate) fn coefficient_of(book: &[u8], i: u16, which: u16) -> u32
     ensures { result ≡ coefficient book.now i which }
 {
     u32_at(book, member_at(i) + NUMBERS + 4 * u32::from(which))
+}
+
+// Member i's five numbers.
+pub(crate) fn coefficients_of(book: &[u8], i: u16) -> Coefficients
+    ensures { result ≡ coefficients_of book.now i }
+{
+    // Below five, so that nothing is cut.
+    from_fn(|which| coefficient_of(book, i, which as u16))
 }
 
 pub(crate) fn first_feed(book: &[u8], i: u16) -> u8

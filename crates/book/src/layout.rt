@@ -10,7 +10,7 @@ pub const MEMBER_LENGTH: u32 = 32;
 
 pub const FEED_LENGTH: u32 = 8;
 
-// The most bytes that an accepted book has.
+// The most bytes that an accepted book has. A usize has no `From<u32>`, hence `as`.
 pub const LONGEST_BOOK: usize = HEADER_LENGTH as usize
     + MEMBER_LENGTH as usize * MAX_MEMBERS
     + FEED_LENGTH as usize * MAX_FEEDS;
@@ -24,6 +24,9 @@ fn longest_book() -> usize
 
 // How many numbers a member has: four coefficients and an alpha energy weight.
 pub const COEFFICIENTS: usize = 5;
+
+// A member's numbers: four coefficients and an alpha energy weight.
+pub type Coefficients = [u32; COEFFICIENTS];
 
 // In the header.
 pub(crate) const MEMBER_COUNT: u32 = 0;

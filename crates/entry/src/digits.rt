@@ -9,6 +9,7 @@ use crate::scaling::Share;
 fn digit(n: u64) -> u8
     ensures { result ≡ digit n }
 {
+    // Below ten, so that nothing is cut.
     b'0' + (n % 10) as u8
 }
 

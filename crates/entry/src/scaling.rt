@@ -26,6 +26,7 @@ pub(crate) fn share_of(factor: u64) -> Share
 {
     let mut scaled = factor * 1000;
     let mut exponent: u64 = 0;
+    // It ends at a size and not at a count: no iterator serves.
     while nearest(scaled * 10, GRAINS) < FIVE_DIGITS {
         scaled *= 10;
         exponent += 1;

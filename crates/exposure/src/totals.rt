@@ -35,6 +35,7 @@ impl Group {
         ensures y_range { result.y ≤ max_days * 100 * max_quarter_hours }
     {
         let time = self.time(duration_of(kind, u64::from(self.years), total));
+        // Both ranges fit 32 bits, so that nothing is cut.
         Totals {
             x: (time * u64::from(self.breathing)) as u32,
             y: time as u32,

@@ -25,6 +25,7 @@ const NO_RATE: i64 = 100_001;
 fn refused(refusal: Refusal) -> i64
     ensures { result ≡ refused_number refusal }
 {
+    // A refusal's number, a count and a length are below 2^63, so that no cast here cuts anything.
     -(u64::from(refusal) as i64)
 }
 

@@ -24,7 +24,7 @@ use Rattle.balance.proofs.FilledInOrder.{inflow_filled, next_filled, parent_fill
 use Rattle.balance.proofs.Inflow.{inflow_of, inflow_order}
 use Rattle.balance.proofs.MemberOrder.{made_inflow}
 use Rattle.balance.proofs.Numerators.{denominator_pos}
-use Rattle.minutes.specs.Minutes.{once_a_minute, new_factor, minute}
+use Rattle.minutes.specs.Minutes.{once_a_minute, minute}
 use Rattle.minutes.specs.Private.Holding.{Holds, minute_at}
 use Rattle.minutes.proofs.MinuteEquations.{aged_stays_below}
 use Rattle.minutes.proofs.Minute.{renewing, renewed, renewed_ages}
@@ -66,27 +66,20 @@ module _ {book old : List ℕ} (holds : Holds book old) (v : ℕ) where
   pub minute_fed : (i : ℕ) {now : List ℕ} → 1 ≤ i → i < members book → Filled new old (members book) i now → Fed book i now
   minute_fed i later l filling =
       record {
-        accepted = holds.accepted;
         member = l;
         enough = omega (arith, filling.capacity, filling.size);
         fits = word_holds (scale_within book) (inflow_fits i later l filling);
       }
 
-  -- The new factor, worked out from what the code has, in the definition's terms.
-  pub factor_renewed :
-      (i : ℕ) {now : List ℕ} {F s t was factor : ℕ} → i < members book → Filled new old (members book) i now →
-      F ≡ inflow now ((chain_of book).feeds i) → s ≡ scale_of book → t ≡ half_life book i → was ≡ get_or now i 0 →
-      factor ≡ (once_a_minute * t * was + K * (F / s)) / (K + (once_a_minute + v) * t) →
-      factor ≡ new_factor (scale_of book) (chain_of book) (rates_at book v) i (get_or old i 0) (inflow now ((chain_of book).feeds i))
-  factor_renewed i l filling sums scaled lives held made =
-      rw (sums, scaled, lives, held ∙ filled_ahead filling l, rate_is book v i) at made
-
+  -- The new factor, worked out from what the code has, fills the next place.
   pub renewed_filled :
-      (i : ℕ) {now : List ℕ} {factor : ℕ} → 1 ≤ i → i < members book → Filled new old (members book) i now →
-      factor ≡ new_factor (scale_of book) (chain_of book) (rates_at book v) i (get_or old i 0) (inflow now ((chain_of book).feeds i)) →
+      (i : ℕ) {now : List ℕ} {summed scale life factor : ℕ} → 1 ≤ i → i < members book → Filled new old (members book) i now →
+      summed ≡ inflow now ((chain_of book).feeds i) → scale ≡ scale_of book → life ≡ half_life book i →
+      factor ≡ (once_a_minute * life * get_or now i 0 + K * (summed / scale)) / (K + (once_a_minute + v) * life) →
       Filled new old (members book) (i + 1) (set now i factor)
-  renewed_filled i later l filling made =
-      next_filled (chain_of book) (renewing (scale_of book) (chain_of book) (rates_at book v) old) sound i later l l filling made
+  renewed_filled i later l filling sums scaled lives made =
+      next_filled (chain_of book) (renewing (scale_of book) (chain_of book) (rates_at book v) old) sound i later l l filling
+      (rw (sums, scaled, lives, filled_ahead 0 filling l, rate_is book v i) at made)
 
   -- The parent's place holds G already.
   held : set old 0 G ≡ old

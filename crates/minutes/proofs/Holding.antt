@@ -8,6 +8,7 @@ use mathlib.Core.Path.{◌≡◌, refl, sym, ap, ◌∙◌}
 use mathlib.Core.List.{List, ◌++◌}
 use lib.ListN.{length, get_or, take, drop, take-append-drop, length-append, length-replicate, get_or-append}
 use lib.Seq.{length-take-le, take_at, drop_at}
+use Rattle.std.specs.declared.slice.ChunksExact.{ChunksExact}
 use Rattle.book.specs.Fields.{members, scale_of}
 use Rattle.book.specs.BookGrounds.{Accepted}
 use Rattle.book.proofs.Ranges.{accepted_ranges}
@@ -21,6 +22,7 @@ use Rattle.balance.proofs.Equations.{ExactFactors, exact_solves}
 use Rattle.minutes.specs.Minutes.{start, minutes, rate_of, minutes_of, after_periods}
 use Rattle.minutes.specs.Private.Holding.{BelowUnaired, Holds, minute_at, minutes_at, periods_at}
 use Rattle.minutes.proofs.Minute.{minute_front}
+use Rattle.minutes.proofs.Pairs.{PairAt}
 use Rattle.minutes.proofs.Repeated.{start_below, minutes_below, minutes_length, minutes_parent}
 
 module _ (book : List ℕ) (accepted : Accepted book) where
@@ -174,8 +176,10 @@ module _ {book entry list : List ℕ} {count : ℕ} (begun : Begun book entry li
   periods_none periods = begun_reached
 
 pub periods_more :
-    {book list : List ℕ} (periods : List ℕ) (p : ℕ) {now later : List ℕ} → Reached book list (periods_at book periods p) now →
-    later ≡ minutes_at book (rate_of periods p) (minutes_of periods p) (take (members book) now) ++ drop (members book) now →
+    {book list periods period : List ℕ} {p : ℕ} {rest : ChunksExact ℕ} {now later : List ℕ} → PairAt periods p period rest →
+    Reached book list (periods_at book periods p) now →
+    later ≡ minutes_at book (get_or period 0 0) (get_or period 1 0) (take (members book) now) ++ drop (members book) now →
     Reached book list (periods_at book periods (p + 1)) later
 unfolding after_periods
-periods_more periods p reached passed = rw (add-one p) (reached_minutes reached (rate_of periods p) (minutes_of periods p) passed)
+periods_more {periods = periods} {p = p} pair reached passed =
+    rw (add-one p) (reached_minutes reached (rate_of periods p) (minutes_of periods p) (rw (pair.first, pair.second) at passed))

@@ -6,6 +6,8 @@ pub mod MinuteEquations
 pub mod Minute
 pub mod Repeated
 pub mod Periods
+pub mod Pairs
+pub mod Chunked
 -- The call on an accepted book, and the promises.
 pub mod Beginning
 pub mod Holding

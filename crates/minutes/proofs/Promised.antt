@@ -58,7 +58,7 @@ module _ (periods book list : List ℕ) {n : ℕ} (answered : answer_number (per
   passed = filled_passed (first_met (periods_grounds periods book (length list))) (members book) n answered
 
   pub periods_accepted : Accepted book
-  periods_accepted = (periods_pass periods book (length list) passed.0).accepted
+  periods_accepted = (periods_pass periods book (length list) passed.0).1
 
   pub periods_count : members book ≡ n
   periods_count = passed.1

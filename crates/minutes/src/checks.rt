@@ -18,40 +18,40 @@ pub(crate) fn check_periods(periods: &[u32], book: &[u8], capacity: usize) -> Re
     refuse_if(periods_out_of_range(periods), Refusal::PeriodsOutOfRange)?;
     check_book(book)?;
     refuse_if(
-        capacity < member_count(book) as usize,
+        capacity < usize::from(member_count(book)),
         Refusal::ListTooShort,
     )
 }
 
-// Every second number is a rate, an unpaired last one included.
-#[tactic(auto, unfolding(crate::specs::Periods::period_rate_too_high))]
+// Every second number is a rate, an unpaired last one included: rates and minutes come from C in one list.
 fn some_rate_too_high(periods: &[u32]) -> bool
     ensures { result ≡ period_rate_too_high periods.now }
 {
-    let count = periods.len() - periods.len() / 2;
-    (0..count).any(|p| MAX_RATE < periods[2 * p])
+    periods.chunks(2).any(|period| MAX_RATE < period[0])
 }
 
 // The list's length, how many periods there are, and how long each is.
+#[tactic(auto, unfolding(crate::specs::Periods::periods_out_of_range))]
 fn periods_out_of_range(periods: &[u32]) -> bool
     ensures { result ≡ periods_out_of_range periods.now }
 {
     let numbers = periods.len();
     let count = numbers / 2;
     let unpaired = numbers % 2 == 1;
-    let miscounted = (count < 1) | (MAX_PERIODS < count);
+    let miscounted = !(1..=MAX_PERIODS).contains(&count);
     unpaired | miscounted | some_length_out_of_range(periods)
 }
 
 fn some_length_out_of_range(periods: &[u32]) -> bool
     ensures { result ≡ some_below (period_count periods.now) (λ p. outside 1 max_minutes (minutes_of periods.now p)) }
 {
-    let count = periods.len() / 2;
-    (0..count).any(|p| length_out_of_range(periods[2 * p + 1]))
+    periods
+        .chunks_exact(2)
+        .any(|period| length_out_of_range(period[1]))
 }
 
 fn length_out_of_range(minutes: u32) -> bool
     ensures { result ≡ outside 1 max_minutes minutes }
 {
-    (minutes < 1) | (MAX_MINUTES < minutes)
+    !(1..=MAX_MINUTES).contains(&minutes)
 }

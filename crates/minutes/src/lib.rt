@@ -10,7 +10,6 @@ ghost use Rattle.std.specs.Prelude.{◌≡◌, length};
 ghost use Rattle.minutes.specs.Periods.{periods_answer, periods_list};
 ghost use Rattle.minutes.specs.Promises.{PeriodsPromise};
 
-use book::member_count;
 use checks::check_periods;
 pub use limits::{MAX_MINUTES, MAX_PERIODS};
 use passing::pass_periods;
@@ -24,6 +23,6 @@ pub fn factors_after(periods: &[u32], book: &[u8], out: &mut [u64]) -> Result<us
     ensures sound { PeriodsPromise periods.now book.now result out.new }
 {
     check_periods(periods, book, out.len())?;
-    pass_periods(periods, book, out);
-    Ok(member_count(book) as usize)
+    let members = pass_periods(periods, book, out);
+    Ok(members)
 }

@@ -1,15 +1,14 @@
 // Minutes and periods, passed in the lent list itself: it holds the factors of the minute before, and then those of this one.
 ghost use Rattle.std.specs.Prelude.{◌≡◌, ◌++◌, ◌-◌, ◌≤◌, length, take, drop};
+ghost use Rattle.book.specs.BookGrounds.{Accepted};
 ghost use Rattle.book.specs.Fields.{members};
-ghost use Rattle.book.specs.Held.{held_chain};
-ghost use Rattle.book.specs.Rates.{max_rate};
 ghost use Rattle.minutes.specs.Minutes.{start};
 ghost use Rattle.minutes.specs.Periods.{factors_after};
-ghost use Rattle.minutes.specs.Private.Holding.{PeriodsPass, Holds, minute_at, minutes_at};
+ghost use Rattle.minutes.specs.Private.Holding.{RatesWithin, Holds, minute_at, minutes_at};
 
 use super::step::new_factor;
 use balance::{GRAINS, inflow_of};
-use book::{HeldChain, member_count, read_chain};
+use book::{AcceptedChain, Rate, read_chain};
 
 // A room that was shut: the parent has all its grains, and the others none yet.
 #[tactic(auto, using(crate::proofs::Beginning::beginning))]
@@ -22,43 +21,58 @@ fn begin(out: &mut [u64], count: usize)
 }
 
 // One minute. A member's inflow is read from places that hold this minute's factors already, and its own place still holds the old one.
-fn pass_minute(book: &[u8], v: u32, chain: &HeldChain, out: &mut [u64])
-    requires v_le_max_rate { v ≤ max_rate }
-    requires chain_value { chain.now ≡ held_chain book.now }
-    requires holds { Holds book.now out.old }
-    ensures { let bytes = book.now in
-        out.new ≡ minute_at bytes v out.old ++ drop (members bytes) out.old }
+// `Holds` says again that the book is accepted, since its laws are of a list and the bytes of a book alone.
+#[tactic(auto, using(book::proofs::Rates::scale_positive, balance::proofs::Quotients::later_half_life))]
+fn pass_minute(chain: AcceptedChain<'_>, v: Rate, out: &mut [u64])
+    requires { Holds chain.chain.now.bytes.now out.old }
+    ensures { let book = chain.entry.chain.now.bytes.now in
+        out.new ≡ minute_at book v.hundredths out.old ++ drop (members book) out.old }
 {
-    let members = member_count(book) as usize;
-    for i in 1..members {
-        let inflow = inflow_of(book, i, &chain.ends, &chain.shares, &chain.froms, out);
-        out[i] = new_factor(inflow, chain.scale, chain.half_lives[i], v, out[i]);
+    // By number: an iterator over `out` would lend it, and each turn reads it whole.
+    for i in 1..chain.members() {
+        let inflow = inflow_of(chain, i, out);
+        out[i] = new_factor(inflow, chain.scale(), chain.half_life(i), v, out[i]);
     }
 }
 
 // So many minutes at one rate.
-fn pass_minutes(book: &[u8], v: u32, count: u32, chain: &HeldChain, out: &mut [u64])
-    requires v_le_max_rate { v ≤ max_rate }
-    requires chain_value { chain.now ≡ held_chain book.now }
-    requires holds { Holds book.now out.old }
-    ensures { let bytes = book.now in
-        out.new ≡ minutes_at bytes v count (take (members bytes) out.old) ++ drop (members bytes) out.old }
+fn pass_minutes(chain: AcceptedChain<'_>, v: Rate, count: u32, out: &mut [u64])
+    requires { Holds chain.chain.now.bytes.now out.old }
+    ensures { let book = chain.entry.chain.now.bytes.now in
+        out.new ≡ minutes_at book v.hundredths count (take (members book) out.old) ++ drop (members book) out.old }
 {
     for _passed in 0..count {
-        pass_minute(book, v, chain, out);
+        pass_minute(chain, v, out);
     }
 }
 
-// All the periods one after the other, from a shut room on.
-pub(crate) fn pass_periods(periods: &[u32], book: &[u8], out: &mut [u64])
-    requires { PeriodsPass periods.now book.now (length out.old) }
-    ensures { let bytes = book.now in
-        out.new ≡ factors_after periods.now bytes ++ drop (members bytes) out.old }
+// All the periods one after the other, from a shut room on, and how many members there are.
+fn pass_each(periods: &[u32], chain: AcceptedChain<'_>, out: &mut [u64]) -> usize
+    requires rates_within { RatesWithin periods.now }
+    requires enough { members chain.chain.now.bytes.now ≤ length out.old }
+    ensures counted { result ≡ members chain.entry.chain.now.bytes.now }
+    ensures passed { let book = chain.entry.chain.now.bytes.now in
+        out.new ≡ factors_after periods.now book ++ drop (members book) out.old }
+{
+    let members = chain.members();
+    begin(out, members);
+    for period in periods.chunks_exact(2) {
+        let v = Rate {
+            hundredths: period[0],
+        };
+        pass_minutes(chain, v, period[1], out);
+    }
+    members
+}
+
+// The same for a book that is accepted, and read here.
+pub(crate) fn pass_periods(periods: &[u32], book: &[u8], out: &mut [u64]) -> usize
+    requires rates_within { RatesWithin periods.now }
+    requires accepted { Accepted book.now }
+    requires enough { members book.now ≤ length out.old }
+    ensures counted { result ≡ members book.now }
+    ensures passed { out.new ≡ factors_after periods.now book.now ++ drop (members book.now) out.old }
 {
     let chain = read_chain(book);
-    begin(out, member_count(book) as usize);
-    let count = periods.len() / 2;
-    for p in 0..count {
-        pass_minutes(book, periods[2 * p], periods[2 * p + 1], &chain, out);
-    }
+    pass_each(periods, AcceptedChain { chain: &chain }, out)
 }

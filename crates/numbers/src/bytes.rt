@@ -16,6 +16,7 @@ fn bytes_from<const N: usize>(bytes: &[u8], at: u32) -> [u8; N]
     ensures size { length result ≡ N }
     ensures each { (k : _) → k < N → get_or result k 0 ≡ u8_at bytes.now (at + k) }
 {
+    // A usize has no `From<u32>`; the cast cuts nothing here and in `u8_at`.
     let at = at as usize;
     if at + N <= bytes.len() {
         return from_fn(|k| bytes[at + k]);

@@ -81,6 +81,7 @@ fn write_every(rt: &HostRuntime, rate: u32, minutes: u32, every: u32, book: &[u8
     if let Err(refusal) = factors_after(&[rate, minutes], book, &mut factors) {
         return Ok(rt.println(refusal)?);
     }
+    // A usize has no `From<u32>`; the cast cuts nothing.
     for minute in (every..=minutes).step_by(every as usize) {
         write_after(
             rt,

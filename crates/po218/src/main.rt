@@ -12,20 +12,20 @@ const BOOK: [u8; 80] = [
     0, 0, 0, 0, 0, 0, 0, 0, 0, 1, 0, 0, 0, 160, 134, 1, 0, 0, 0, 0, 0,
 ];
 
-// Po-218's factor at a rate, in grains; 0 where the call refuses.
-fn factor_at(v: u32) -> u64 {
+// Po-218's factor at a rate, in grains; none where the call refuses.
+fn factor_at(v: u32) -> Option<u64> {
     let mut factors = [0u64; 2];
-    match balance::factors(v, &BOOK, &mut factors) {
-        Ok(_) => factors[1],
-        Err(_) => 0,
-    }
+    balance::factors(v, &BOOK, &mut factors).ok()?;
+    Some(factors[1])
 }
 
 fn main(rt: HostRuntime) -> io::Result<()> {
     for v in SOURCE_RATES {
-        print!(rt; "{} ", Rate(v))?;
-        rt.stdout().write_all(&entry::entry_of(factor_at(v)))?;
-        println!(rt; "")?;
+        if let Some(factor) = factor_at(v) {
+            print!(rt; "{} ", Rate(v))?;
+            rt.stdout().write_all(&entry::entry_of(factor))?;
+            println!(rt; "")?;
+        }
     }
     Ok(())
 }

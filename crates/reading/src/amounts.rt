@@ -15,7 +15,7 @@ pub enum Amount {
     BecquerelsPerCubicMetre(f64),
 }
 
-// What a reading is in.
+// What a reading is in. An amount has its number in it, as document 01 has it, so that the units are named twice.
 #[derive(Clone, Copy, PartialEq, Eq)]
 pub enum Unit {
     PicocuriesPerLitre,

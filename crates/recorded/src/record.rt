@@ -21,6 +21,7 @@ pub(crate) fn next_record<R: Read>(alloc: Global, input: &mut R) -> Result<Optio
         return Ok(None);
     }
     input.read_exact(&mut head[1..])?;
+    // A usize has no `From<u32>`; the cast cuts nothing.
     let length = u32_at(&head, 1) as usize;
     let mut body = vec![in alloc; 0u8; length].map_err(Error::from)?;
     input.read_exact(&mut body)?;

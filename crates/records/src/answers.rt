@@ -27,7 +27,7 @@ pub fn report_case(alloc: Global, job: &[u8]) -> Result<Vec<u8>, AllocError>
     Vec::from_slice(alloc, &buffer[..n])
 }
 
-// A job, as `fan` writes it.
+// A job, as `fan` writes it. Two functions, as `screen` and `fan` are two programs, and for the same reason.
 pub fn lowest_case(alloc: Global, job: &[u8]) -> Result<Vec<u8>, AllocError>
     ensures { IfOk result (λ text. text.items ≡ rate_line job.now) }
 {
@@ -61,6 +61,7 @@ pub fn opening_case(alloc: Global, body: &[u8]) -> Result<Vec<u8>, AllocError>
 pub fn table_case(alloc: Global, body: &[u8]) -> Result<Vec<u8>, AllocError>
     ensures { IfOk result (λ text. text.items ≡ table_case body.now) }
 {
+    // A usize has no `From<u32>`; the cast cuts nothing.
     let mut buffer = vec![in alloc; BYTE; u32_at(body, 0) as usize]?;
     let count = u16_at(body, 4);
     let rates = numbers(alloc, body, 6, count)?;
@@ -97,7 +98,9 @@ fn push_answer(
     ensures { OnOk result (text.new.items ≡ text.old.items ++ answered word.now answer) }
 {
     match answer {
+        // A u64 has no `From<usize>`; the cast cuts nothing.
         Ok(n) => push_number(text, word, n as u64),
+        // By word and number: what a refusal's `Display` writes is told of a formatter, and not of a Vec.
         Err(refusal) => push_number(text, b"refused ", u64::from(refusal)),
     }
 }

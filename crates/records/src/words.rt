@@ -6,7 +6,7 @@ ghost use Rattle.records.specs.Cases.{places};
 use std::alloc::AllocError;
 use text::MOST_DIGITS;
 
-// A word, and then a number in decimal.
+// A word, and then a number in decimal. Beside `text::Writer`, which has no room to grow: a Vec can run out of memory.
 #[tactic(auto, using(text::proofs::Digits::digits_decimal))]
 pub(crate) fn push_number(text: &mut Vec<u8>, word: &[u8], n: u64) -> Result<(), AllocError>
     ensures { OnOk result (text.new.items ≡ text.old.items ++ word.now ++ decimal n) }

@@ -23,6 +23,7 @@ fn put_factor_line<S: Sink>(sink: &mut S, member: usize, factor: u64)
     ensures { S.Took sink.old (factor_line member factor) sink.new }
 {
     sink.word(b"factor ");
+    // A u64 has no `From<usize>`; the cast cuts nothing.
     sink.number(member as u64);
     put_line(sink, b" ", factor);
 }
@@ -33,7 +34,7 @@ pub(crate) fn put_figures<S: Sink>(sink: &mut S, figures: Figures)
 {
     put_line(sink, b"concentration ", figures.concentration);
     put_verdict(sink, figures.verdict);
-    put_line(sink, b"level ", figures.level as u64);
+    put_line(sink, b"level ", u64::from(figures.level));
     put_working(sink, figures.working);
 }
 
@@ -70,6 +71,7 @@ fn put_working<S: Sink>(sink: &mut S, working: Option<WorkingLevels>)
     }
 }
 
+// By word and number: what a refusal's `Display` writes is told of a formatter, and not of a sink.
 pub(crate) fn put_refusal<S: Sink>(sink: &mut S, refusal: Refusal)
     requires { length (refused_line refusal) ≤ S.room sink.old }
     ensures { S.Took sink.old (refused_line refusal) sink.new }

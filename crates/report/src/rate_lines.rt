@@ -24,7 +24,7 @@ pub(crate) fn put_rate<S: Sink>(sink: &mut S, answered: Result<Option<u32>, Refu
     ensures { S.Took sink.old (line_of answered) sink.new }
 {
     match answered {
-        Ok(Some(rate)) => put_line(sink, b"rate ", rate as u64),
+        Ok(Some(rate)) => put_line(sink, b"rate ", u64::from(rate)),
         Ok(None) => sink.word(b"rate none\n"),
         Err(refusal) => put_refusal(sink, refusal),
     }

@@ -11,7 +11,7 @@ pub struct Figures {
     pub working: Option<WorkingLevels>,
 }
 
-// The answer to a job that is accepted. The factors stand in the first `count` places.
+// The answer to a job that is accepted. With no heap, the factors stand in the first `count` places of a fixed array.
 #[derive(Clone, Copy)]
 pub struct Answer {
     pub figures: Figures,

@@ -1,5 +1,4 @@
 -- The laws behind the contracts, in the order in which they build on each other.
-pub mod Rates
 pub mod RateLine
 pub mod ByChecks
 pub mod LongBooks

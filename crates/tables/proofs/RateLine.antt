@@ -20,7 +20,7 @@ use Rattle.text.specs.Words.{decimal}
 use Rattle.text.proofs.Pieces.{each_as_long}
 use Rattle.entry.proofs.Promised.{entry_nine}
 use Rattle.tables.specs.Table.{spaced_entry, rate_line}
-use Rattle.tables.specs.Private.Tabulable.{OneRate, NoneAboveParent}
+use Rattle.tables.specs.Private.Tabulable.{NoneAboveParent}
 
 pub spaced_ten : (member factor : ℕ) → length (spaced_entry member factor) ≡ 10
 spaced_ten member factor = omega (arith, entry_nine factor)
@@ -42,12 +42,11 @@ module _ (book : List ℕ) (accepted : Accepted book) (v : ℕ) where
             rw is (factor_at_most_g book v i accepted (omega arith));
       }
 
--- Of one rate, with the count of members that the code reads.
-pub factors_left :
-    {v n : ℕ} {book list : List ℕ} → OneRate v book → n ≡ members book →
-    list ≡ factors_at book v ++ drop (members book) (replicate max_members 0) → take n list ≡ factors_at book v
-factors_left {v} {book = book} given counted is =
-    rw (is, counted) (take_at (factors_at book v) _ (members book) (factors_length book v given.accepted))
+  -- The first places of the array, as many as the members that the code counts.
+  pub factors_left :
+      {n : ℕ} {list : List ℕ} → n ≡ members book →
+      list ≡ factors_at book v ++ drop (members book) (replicate max_members 0) → take n list ≡ factors_at book v
+  factors_left counted is = rw (is, counted) (take_at (factors_at book v) _ (members book) (factors_length book v accepted))
 
 -- What the line is made of once the call has left its factors in the array.
 pub ruleset left = (few_members, factors_left, none_above_parent, length-take-le)

@@ -9,7 +9,6 @@ use book::{MAX_RATE, check_book};
 use refusals::{Refusal, refuse_if};
 
 // The first ground for refusing the call, but for the last.
-#[tactic(auto, using(refusals::proofs::FirstMet::in_turn))]
 pub(crate) fn check_table(rates: &[u32], book: &[u8]) -> Result<(), Refusal>
     ensures { result ≡ first_met (earlier_grounds rates.now book.now) }
 {
@@ -17,7 +16,7 @@ pub(crate) fn check_table(rates: &[u32], book: &[u8]) -> Result<(), Refusal>
     refuse_if(some_rate_too_high(rates), Refusal::RateTooHigh)?;
     check_book(book)?;
     refuse_if(
-        (count < 1) | (MAX_RATES < count),
+        !(1..=MAX_RATES).contains(&count),
         Refusal::RateCountOutOfRange,
     )
 }

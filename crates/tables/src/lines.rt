@@ -1,40 +1,35 @@
 // The lines of a table, each handed to a sink.
 ghost use Rattle.std.specs.Prelude.{◌≡◌, ◌≤◌, length};
-ghost use Rattle.book.specs.Held.{held_chain};
 ghost use Rattle.balance.specs.Balance.{G};
 ghost use Rattle.text.specs.Words.{each};
 ghost use Rattle.tables.specs.Table.{spaced_entry, line_of, rate_line, table_text};
-ghost use Rattle.tables.specs.Private.Tabulable.{Tabulable, OneRate, NoneAboveParent};
+ghost use Rattle.tables.specs.Private.Tabulable.{Tabulable, NoneAboveParent};
 
 use balance::fill_accepted;
-use book::{HeldChain, MAX_MEMBERS, member_count, read_chain};
+use book::{AcceptedChain, MAX_MEMBERS, Rate};
 use entry::entry_of;
 use text::Sink;
 
 // One line for each rate.
-pub(crate) fn put_rate_lines<S: Sink>(sink: &mut S, rates: &[u32], book: &[u8])
-    requires tabulable { Tabulable rates.now book.now }
-    requires fits { length (table_text book.now rates.now) ≤ S.room sink.old }
-    ensures { S.Took sink.old (table_text book.now rates.now) sink.new }
+pub(crate) fn put_rate_lines<S: Sink>(sink: &mut S, rates: &[u32], chain: AcceptedChain<'_>)
+    requires tabulable { Tabulable rates.now }
+    requires fits { length (table_text chain.chain.now.bytes.now rates.now) ≤ S.room sink.old }
+    ensures { S.Took sink.old (table_text chain.entry.chain.now.bytes.now rates.now) sink.new }
 {
-    let chain = read_chain(book);
     for rate in rates {
-        put_rate_line(sink, *rate, book, &chain);
+        put_rate_line(sink, Rate { hundredths: *rate }, chain);
     }
 }
 
-// The line of one rate, of an accepted book whose arrays are lent.
+// The line of one rate.
 #[tactic(auto, using(crate::proofs::RateLine::left))]
-fn put_rate_line<S: Sink>(sink: &mut S, v: u32, book: &[u8], chain: &HeldChain)
-    requires one_rate { OneRate v book.now }
-    requires chain_value { chain.now ≡ held_chain book.now }
-    requires fits { length (rate_line book.now 0 v) ≤ S.room sink.old }
-    ensures { S.Took sink.old (rate_line book.now 0 v) sink.new }
+fn put_rate_line<S: Sink>(sink: &mut S, v: Rate, chain: AcceptedChain<'_>)
+    requires { length (rate_line chain.chain.now.bytes.now 0 v.hundredths) ≤ S.room sink.old }
+    ensures { S.Took sink.old (rate_line chain.entry.chain.now.bytes.now 0 v.hundredths) sink.new }
 {
     let mut factors = [0u64; MAX_MEMBERS];
-    fill_accepted(v, book, chain, &mut factors);
-    let count = member_count(book) as usize;
-    put_line_of(sink, v as u64, &factors[..count]);
+    fill_accepted(v, chain, &mut factors);
+    put_line_of(sink, u64::from(v.hundredths), &factors[..chain.members()]);
 }
 
 // A rate, its factors, a line feed.
@@ -59,6 +54,7 @@ fn put_entries<S: Sink>(sink: &mut S, factors: &[u64])
     }
 }
 
+// A factor is a plain u64, as in the lists that callers lend; that it is at most G is asked here, in `entry` and in `verdict`.
 fn put_entry<S: Sink>(sink: &mut S, factor: u64)
     requires fits { length (spaced_entry 0 factor) ≤ S.room sink.old }
     requires factor_bound { factor ≤ G }

@@ -97,6 +97,7 @@ pub fn decimal_length(n: u64) -> usize
     ensures counted { result ≡ length (decimal n) }
     ensures within { result ≤ most_digits }
 {
+    // At most 19, and a usize has no `From<u32>`.
     n.checked_ilog10().map_or(1, |k| k as usize + 1)
 }
 

@@ -10,8 +10,7 @@ use mathlib.Core.Bool.{true}
 use mathlib.Core.List.{List}
 use Rattle.book.specs.Fields.{coefficient}
 use Rattle.book.specs.BookGrounds.{Accepted}
-use Rattle.book.specs.Held.{held_book}
-use Rattle.book.specs.declared.held.HeldBook.{HeldBook}
+use Rattle.book.specs.Holding.{HoldingNumbers}
 use Rattle.book.specs.Rates.{max_rate}
 use Rattle.numbers.specs.Bisection.{Between, Rises}
 use Rattle.numbers.proofs.Bisection.{found}
@@ -27,7 +26,7 @@ use Rattle.verdict.specs.declared.verdict.Criterion.{Criterion}
 use Rattle.verdict.specs.declared.verdict.Verdict.{Verdict}
 use Rattle.verdict.specs.declared.verdict.Verdict.TheVariants.{Below, Close, Above}
 use Rattle.screening.proofs.Promised.{demand_3}
-use Rattle.screening.proofs.HeldNumbers.{by_table}
+use Rattle.screening.proofs.HeldNumbers.{in_array, by_rows}
 use Rattle.ventilation.specs.Lowest.{says_below, first_rate, lowest_for, lowest_of}
 use Rattle.ventilation.specs.Private.BelowAt.{below_at}
 
@@ -52,14 +51,14 @@ below_rises by book numbers C accepted =
           only_best (verdict l) (le_trans falls (best (verdict k) holds));
     }
 
--- What is found with the table's numbers is found with the book's.
+-- What is found with the array's numbers is found with the book's.
 pub by_book :
-    {by : Criterion} {v C r : ℕ} {book : List ℕ} {table : HeldBook} → Screenable by v C book → table ≡ held_book book →
-    Between (below_at by book (number_in table.coefficients) C) (suc max_rate) r r → (k : ℕ) → k < suc max_rate →
-    below_at by book (coefficient book) C k ≡ leb r k
-by_book {by} {v} {C} {r} {book} {table} asked read span k less =
-    let rises = below_rises by book (number_in table.coefficients) C asked.accepted in
-    ap says_below (sym (by_table asked read k)) ∙ found span rises (le_refl r) k less
+    {by : Criterion} {v C r : ℕ} {book : List ℕ} {n : ℕ} {array : List (List ℕ)} {W : ℕ} → Screenable by v C book →
+    HoldingNumbers book n array W → Between (below_at by book (number_in array) C) (suc max_rate) r r →
+    (k : ℕ) → k < suc max_rate → below_at by book (coefficient book) C k ≡ leb r k
+by_book {by} {v} {C} {r} {book} {array = array} asked held span k less =
+    let rises = below_rises by book (number_in array) C asked.accepted in
+    ap says_below (sym (by_rows (in_array asked.accepted held) by C k)) ∙ found span rises (le_refl r) k less
 
 -- The search on what the checks have left of a job is the search on the job.
 pub searched_is :

@@ -1,15 +1,14 @@
 // The search for the lowest rate.
-ghost use Rattle.std.specs.Prelude.{◌≡◌, suc};
+ghost use Rattle.std.specs.Prelude.{◌≡◌, ◌≤◌, suc};
 ghost use Rattle.book.specs.Fields.{coefficient};
-ghost use Rattle.book.specs.Held.{held_chain};
 ghost use Rattle.book.specs.Rates.{max_rate};
 ghost use Rattle.numbers.specs.Bisection.{Between};
-ghost use Rattle.screening.specs.Screenable.{Screenable};
+ghost use Rattle.screening.specs.Screenable.{Judgeable, Screenable};
 ghost use Rattle.verdict.specs.HeldNumbers.{number_in};
 ghost use Rattle.ventilation.specs.Lowest.{first_rate};
 ghost use Rattle.ventilation.specs.Private.BelowAt.{below_at};
 
-use book::{COEFFICIENTS, HeldChain, MAX_MEMBERS, MAX_RATE, read_book};
+use book::{AcceptedChain, Coefficients, MAX_MEMBERS, MAX_RATE, Rate, read_chain, read_numbers};
 use numbers::first_where;
 use screening::{Criterion, ScreeningInput, Verdict, verdict_at};
 
@@ -18,29 +17,32 @@ use screening::{Criterion, ScreeningInput, Verdict, verdict_at};
 fn failing_rates(
     by: Criterion,
     concentration: u64,
-    book: &[u8],
-    chain: &HeldChain,
-    coefficients: &[u32; COEFFICIENTS * MAX_MEMBERS],
+    chain: AcceptedChain<'_>,
+    coefficients: &[Coefficients; MAX_MEMBERS],
 ) -> u32
-    requires screenable { Screenable by max_rate concentration book.now }
-    requires chain_value { chain.now ≡ held_chain book.now }
-    ensures { Between (below_at by book.now (number_in coefficients.now) concentration) (suc max_rate) result result }
+    requires { Judgeable by concentration }
+    ensures { let book = chain.entry.chain.now.bytes.now in
+        Between (below_at by book (number_in coefficients.now) concentration) (suc max_rate) result result }
 {
-    first_where(MAX_RATE + 1, |rate| {
-        verdict_at(by, rate, concentration, book, chain, coefficients) == Verdict::Below
-    })
+    let is_enough = |rate|
+        requires within { rate ≤ max_rate }
+        requires judgeable { Judgeable by concentration }
+    {
+        let rate = Rate { hundredths: rate };
+        verdict_at(by, rate, concentration, chain, coefficients) == Verdict::Below
+    };
+    first_where(MAX_RATE + 1, is_enough)
 }
 
 // The lowest rate for a room whose book is checked. The book is read once, and its arrays are lent.
-#[tactic(auto, using(book::proofs::HeldFields::chain_of))]
 pub(crate) fn lowest_for(input: ScreeningInput, book: &[u8]) -> Option<u32>
     requires { Screenable input.by input.rate input.concentration book.now }
     ensures { result ≡ first_rate (below_at input.by book.now (coefficient book.now) input.concentration) 0 (suc max_rate) }
 {
-    let by = input.by;
-    let concentration = input.concentration;
-    let held = read_book(book);
-    let failing = failing_rates(by, concentration, book, &held.chain, &held.coefficients);
+    let held = read_chain(book);
+    let numbers = read_numbers(book);
+    let chain = AcceptedChain { chain: &held };
+    let failing = failing_rates(input.by, input.concentration, chain, &numbers.coefficients);
     if failing <= MAX_RATE {
         Some(failing)
     } else {

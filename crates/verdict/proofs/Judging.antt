@@ -1,10 +1,12 @@
 -- The sums in limbs are those of the assessment: a factor is at most G, so the cap leaves it as it is.
-use Prim.Native.Nat.{ℕ, ◌+◌, ◌*◌, ◌≤◌, ◌<◌, min}
+use Prim.Native.Nat.{ℕ, ◌+◌, ◌*◌, ◌%◌, ◌^◌, ◌≤◌, ◌<◌, min}
 use native.Mathlib.Nat.{one-mul}
 use native.Mathlib.Omega.{arith}
 use mathlib.Core.Path.{◌≡◌, sym, ap, ◌∙◌}
 use mathlib.Core.List.{List}
-use lib.ListN.{get_or}
+use lib.Dec.{lit<}
+use lib.ListN.{length, get_or}
+use Rattle.wide.specs.Value.{modulus}
 use Rattle.balance.specs.Balance.{G}
 use Rattle.numbers.specs.Sums.{sum_below}
 use Rattle.verdict.specs.Verdict.{Assessment, bound_of, weight_of, raised, verdict_of, verdict_at}
@@ -13,28 +15,29 @@ use Rattle.verdict.specs.HeldNumbers.{number_in, term_in, assessment_in, judged_
 use Rattle.verdict.specs.declared.verdict.Criterion.{Criterion}
 use Rattle.verdict.specs.declared.verdict.Judgement.{Judgement}
 use Rattle.verdict.specs.declared.verdict.Verdict.{Verdict}
+use Rattle.verdict.proofs.ExactLimbs.{held, multiple_held}
 use Rattle.verdict.proofs.Summing.{sum_top}
 use Rattle.numbers.proofs.Sums.{sum_same}
 
 uncapped : (f i : ℕ) → f ≤ G → min (f + 0 * i) G ≡ f
 uncapped f i h = omega arith
 
-module _ (by : Criterion) (count : ℕ) (coefficients factors : List ℕ) where
+module _ (by : Criterion) (coefficients : List (List ℕ)) (factors : List ℕ) where
   -- what `weighted_sum` answers
   abbrev Answered : ℕ → ℕ → Type 0
-  Answered margin sum = (sum ≡ sum_below count (term_in by coefficients factors margin)) × (sum ≤ sum_top)
+  Answered margin sum = (sum ≡ sum_below (length factors) (term_in by coefficients factors margin)) × (sum ≤ sum_top)
 
   low_sum :
-      {sum : ℕ} → ((i : ℕ) → i < count → get_or factors i 0 ≤ G) → Answered 0 sum →
-      sum ≡ sum_below count (λ i. weight_of by (number_in coefficients) i * get_or factors i 0)
+      {sum : ℕ} → ((i : ℕ) → i < length factors → get_or factors i 0 ≤ G) → Answered 0 sum →
+      sum ≡ sum_below (length factors) (λ i. weight_of by (number_in coefficients) i * get_or factors i 0)
   low_sum capped answered =
       answered.0
-      ∙ sum_same count
+      ∙ sum_same (length factors)
       (λ i l. ap (λ f. weight_of by (number_in coefficients) i * f) (uncapped (get_or factors i 0) i (capped i l)))
 
   pub sums_are :
-      {lows highs B : ℕ} → Summable by count factors → Answered 0 lows → Answered 2 highs → B ≡ bound_of by →
-      SumsOf (assessment_in by count coefficients factors) lows highs B
+      {lows highs B : ℕ} → Summable by coefficients factors → Answered 0 lows → Answered 2 highs → B ≡ bound_of by →
+      SumsOf (assessment_in by coefficients factors) lows highs B
   sums_are asked lows highs B =
       record {
         low_is = low_sum asked.capped lows ∙ sym (one-mul _);
@@ -43,6 +46,10 @@ module _ (by : Criterion) (count : ℕ) (coefficients factors : List ℕ) where
         low_fits = lows.1;
         high_fits = highs.1;
       }
+
+-- The sums are small enough for their products with a concentration to be exact.
+pub product_exact : {sum C product : ℕ} → sum ≤ 2 ^ 117 → C ≤ max_level → product ≡ sum * C % modulus → product ≡ C * sum
+product_exact fits small e = (multiple_held e (held fits) small (lit< tt)).is ∙ omega arith
 
 module _ {a : Assessment} {lows highs B : ℕ} (sums : SumsOf a lows highs B) where
   -- Low and High at C are C times what they are at 1.

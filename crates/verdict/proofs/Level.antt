@@ -9,7 +9,7 @@ use mathlib.Core.Bool.{Bool, true, false, cond}
 use lib.Dec.{eqb}
 use borrow.Author.Tests.{eqb-true, eqb-false}
 use Rattle.wide.specs.Quotient.{LargestQuotient}
-use Rattle.wide.proofs.LargestFactor.{min_is}
+use Rattle.wide.proofs.LargestFactor.{min_is, unique}
 use Rattle.verdict.specs.Verdict.{Assessment, low, high, capped_quotient, max_level, level}
 use Rattle.verdict.specs.Promises.{LevelPromise}
 use Rattle.verdict.proofs.Verdicts.{says, below_if}
@@ -21,6 +21,10 @@ by_divisor cap a b false e = min_is a b cap (pos_of_ne-zero (eqb-false b 0 e))
 
 pub capped_quotient_largest : (cap a b : ℕ) → LargestQuotient a b cap (capped_quotient cap a b)
 capped_quotient_largest cap a b = by_divisor cap a b (eqb b 0) refl
+
+-- There is one such factor.
+pub capped_is : {cap a b q : ℕ} → LargestQuotient a b cap q → q ≡ capped_quotient cap a b
+capped_is found = unique found (capped_quotient_largest _ _ _)
 
 high_scales : (a : Assessment) (C : ℕ) → high a C ≡ C * high a 1
 high_scales a C = omega arith

@@ -1,40 +1,41 @@
--- What is worked out from the arrays that a caller holds: the members' numbers, and their factors.
-use Rattle.std.specs.Prelude.{ℕ, ◌+◌, ◌*◌, ◌^◌, ◌≤◌, ◌<◌, min, ◌≡◌, List, get_or}
+-- What is worked out from the slices that a caller holds: the members' numbers, a row each, and their factors.
+use Rattle.std.specs.Prelude.{ℕ, ◌+◌, ◌*◌, ◌^◌, ◌≤◌, ◌<◌, min, ◌≡◌, List, [], length, get_or}
 use Rattle.book.specs.Limits.{max_members}
-use Rattle.book.specs.Fields.{coefficient_count}
 use Rattle.balance.specs.Balance.{G}
 use Rattle.verdict.specs.Verdict.{Assessment, assessment_by, weight_of, max_target, low, high, verdict_at, max_level, level}
 use Rattle.verdict.specs.WorkingLevels.{alpha_sum}
 use Rattle.verdict.specs.declared.verdict.Criterion.{Criterion}
 use Rattle.verdict.specs.declared.verdict.Judgement.{Judgement}
 
--- The members' numbers in an array, five each.
-abbrev pub number_in : List ℕ → ℕ → ℕ → ℕ
-number_in coefficients i which = get_or coefficients (coefficient_count * i + which) 0
+-- A member's number, in its row.
+abbrev pub number_in : List (List ℕ) → ℕ → ℕ → ℕ
+number_in coefficients i which = get_or (get_or coefficients i []) which 0
 
 -- A member's term of Low (margin 0) and of High (margin 2): the weight times the factor with its margin, capped at G.
-abbrev pub term_in : Criterion → List ℕ → List ℕ → ℕ → ℕ → ℕ
+abbrev pub term_in : Criterion → List (List ℕ) → List ℕ → ℕ → ℕ → ℕ
 term_in by coefficients factors margin i =
     weight_of by (number_in coefficients) i * min (get_or factors i 0 + margin * i) G
 
-abbrev pub assessment_in : Criterion → ℕ → List ℕ → List ℕ → Assessment
-assessment_in by count coefficients factors = assessment_by by count (number_in coefficients) (λ i. get_or factors i 0)
+abbrev pub assessment_in : Criterion → List (List ℕ) → List ℕ → Assessment
+assessment_in by coefficients factors =
+    assessment_by by (length factors) (number_in coefficients) (λ i. get_or factors i 0)
 
-abbrev pub alpha_in : ℕ → List ℕ → List ℕ → ℕ
-alpha_in count coefficients factors = alpha_sum count (number_in coefficients) (λ i. get_or factors i 0)
+abbrev pub alpha_in : List (List ℕ) → List ℕ → ℕ
+alpha_in coefficients factors = alpha_sum (length factors) (number_in coefficients) (λ i. get_or factors i 0)
 
 -- The verdict and the level of an assessment at C.
 abbrev pub judged_on : Assessment → ℕ → Judgement
 judged_on a C = record { verdict = verdict_at a C; level = level a }
 
 -- What is asked of the numbers. A concentration, as a level, is at most 4,000,000,000.
-pub record Summable (by : Criterion) (count : ℕ) (factors : List ℕ) : Type 0 where
+pub record Summable (by : Criterion) (coefficients : List (List ℕ)) (factors : List ℕ) : Type 0 where
   pub target : by.target ≤ max_target
-  pub members : count ≤ max_members
-  pub capped : (i : ℕ) → i < count → get_or factors i 0 ≤ G
+  pub rows : length coefficients ≡ length factors
+  pub members : length factors ≤ max_members
+  pub capped : (i : ℕ) → i < length factors → get_or factors i 0 ≤ G
 
-pub record Judgeable (by : Criterion) (C count : ℕ) (factors : List ℕ) : Type 0 where
-  pub summable : Summable by count factors
+pub record Judgeable (by : Criterion) (C : ℕ) (coefficients : List (List ℕ)) (factors : List ℕ) : Type 0 where
+  pub summable : Summable by coefficients factors
   pub concentration : C ≤ max_level
 
 -- Sums that are an assessment's: Low and High at one mBq/m³, and B.

@@ -1,7 +1,6 @@
 pub mod Verdict
 pub mod WorkingLevels
 pub mod HeldNumbers
-pub mod Summing
 pub mod CommonFactor
 pub mod WholeHours
 pub mod Promises

@@ -2,7 +2,6 @@
 // factors, wherever these come from.
 #![tactic(auto)]
 
-mod total;
 mod verdict;
 mod weighted;
 mod working;

@@ -6,7 +6,7 @@ ghost use Rattle.verdict.specs.Verdict.{max_target, max_level};
 ghost use Rattle.verdict.specs.HeldNumbers.{assessment_in, judged_on, Summable, SumsOf, Comparable, Judgeable};
 
 use crate::weighted::weighted_sum;
-use book::{COEFFICIENTS, MAX_MEMBERS};
+use book::Coefficients;
 use exposure::{HUNDREDTHS, Kind};
 use wide::Wide;
 
@@ -59,7 +59,7 @@ pub struct Judgement {
 }
 
 // The place of the inhalation coefficient among a member's five numbers; the submersion coefficient follows it.
-// It stays a number: the book's table has all members' numbers in one array, and a place is what that is read at.
+// It stays a number, since a place is what a row is read at.
 pub(crate) fn first_place(kind: Kind) -> usize
     ensures { (result ≡ inhalation kind) × (result + 1 ≡ submersion kind) × (result ≤ 3) }
 {
@@ -75,7 +75,7 @@ fn bound_of(by: Criterion) -> Wide
     ensures { result ≡ bound_of by }
 {
     let kind = by.kind;
-    let target = by.target as u64;
+    let target = u64::from(by.target);
     match kind {
         Kind::Risk => in_grains(
             target * MILLIBECQUERELS * QUARTER_HOURS_PER_YEAR,
@@ -112,6 +112,7 @@ fn verdict_of(low: Wide, high: Wide, bound: Wide) -> Verdict
 }
 
 // The largest concentration up to the cap for which High is at most B.
+#[tactic(auto, using(crate::proofs::Level::capped_is))]
 fn level_of(bound: Wide, high_at_one: Wide) -> u32
     ensures { result ≡ capped_quotient max_level bound high_at_one }
 {
@@ -119,24 +120,21 @@ fn level_of(bound: Wide, high_at_one: Wide) -> u32
 }
 
 // Low and High at one mBq/m³, and B, from the members' numbers and factors.
-// These stay parameters: a struct that lends them has two values in an `ensures`, so each clause says `of.entry.count`.
-pub fn sums_of(
-    by: Criterion,
-    count: usize,
-    coefficients: &[u32; COEFFICIENTS * MAX_MEMBERS],
-    factors: &[u64; MAX_MEMBERS],
-) -> Sums
-    requires { Summable by count factors.now }
-    ensures { SumsOf (assessment_in by count coefficients.now factors.now)
-        result.low result.high result.bound }
+// These stay parameters, two slices of one length: a struct that lends them has two values in an `ensures`, so each
+// clause says `of.entry.factors`.
+#[tactic(auto, using(crate::proofs::Judging::sums_are))]
+pub fn sums_of(by: Criterion, coefficients: &[Coefficients], factors: &[u64]) -> Sums
+    requires { Summable by coefficients.now factors.now }
+    ensures { SumsOf (assessment_in by coefficients.now factors.now) result.low result.high result.bound }
 {
-    let low = weighted_sum(by, count, coefficients, factors, 0);
-    let high = weighted_sum(by, count, coefficients, factors, 2);
+    let low = weighted_sum(by, coefficients, factors, 0);
+    let high = weighted_sum(by, coefficients, factors, 2);
     let bound = bound_of(by);
     Sums { low, high, bound }
 }
 
 // The verdict at a concentration.
+#[tactic(auto, using(crate::proofs::Judging::product_exact))]
 pub fn verdict_by(sums: Sums, concentration: u64) -> Verdict
     requires { Comparable sums.low sums.high concentration }
     ensures { result ≡ verdict_of (concentration * sums.low) (concentration * sums.high) sums.bound }
@@ -144,6 +142,7 @@ pub fn verdict_by(sums: Sums, concentration: u64) -> Verdict
     let low = sums.low;
     let high = sums.high;
     let bound = sums.bound;
+    // Nothing is lost: a concentration is at most MAX_LEVEL.
     let times = concentration as u32;
     verdict_of(low.wrapping_mul(times), high.wrapping_mul(times), bound)
 }
@@ -152,14 +151,13 @@ pub fn verdict_by(sums: Sums, concentration: u64) -> Verdict
 pub fn judged(
     by: Criterion,
     concentration: u64,
-    count: usize,
-    coefficients: &[u32; COEFFICIENTS * MAX_MEMBERS],
-    factors: &[u64; MAX_MEMBERS],
+    coefficients: &[Coefficients],
+    factors: &[u64],
 ) -> Judgement
-    requires { Judgeable by concentration count factors.now }
-    ensures { result ≡ judged_on (assessment_in by count coefficients.now factors.now) concentration }
+    requires { Judgeable by concentration coefficients.now factors.now }
+    ensures { result ≡ judged_on (assessment_in by coefficients.now factors.now) concentration }
 {
-    let sums = sums_of(by, count, coefficients, factors);
+    let sums = sums_of(by, coefficients, factors);
     let high = sums.high;
     let bound = sums.bound;
     Judgement {

@@ -1,14 +1,13 @@
 // Sums of weighted factors, which pass 64 bits.
-ghost use Rattle.std.specs.Prelude.{◌≡◌, ◌+◌, ◌*◌, ◌^◌, ◌≤◌, min};
+ghost use Rattle.std.specs.Prelude.{◌≡◌, ◌+◌, ◌*◌, ◌^◌, ◌≤◌, min, length};
 ghost use Rattle.book.specs.Limits.{max_members};
 ghost use Rattle.balance.specs.Balance.{G};
 ghost use Rattle.numbers.specs.Sums.{sum_below};
 ghost use Rattle.verdict.specs.HeldNumbers.{term_in};
 
-use crate::total::sum_of;
 use crate::verdict::{Criterion, first_place};
 use balance::GRAINS;
-use book::{COEFFICIENTS, MAX_MEMBERS};
+use book::Coefficients;
 use wide::Wide;
 
 const DAYS_PER_YEAR: u32 = 365;
@@ -36,22 +35,28 @@ fn weighted(factor: u64, inhalation: u32, submersion: u32, x: u32, y: u32) -> Wi
     breathed.wrapping_add(immersed)
 }
 
-// Low at one mBq/m³ with margin 0, High with margin 2.
+// Low at one mBq/m³ with margin 0, High with margin 2. At most sixteen terms of at most 2^113 do not pass six limbs.
 pub(crate) fn weighted_sum(
     by: Criterion,
-    count: usize,
-    coefficients: &[u32; COEFFICIENTS * MAX_MEMBERS],
-    factors: &[u64; MAX_MEMBERS],
+    coefficients: &[Coefficients],
+    factors: &[u64],
     margin: u64,
 ) -> Wide
-    requires { (count ≤ max_members) × (margin ≤ 2) }
-    ensures exact { result ≡ sum_below count (term_in by coefficients.now factors.now margin) }
+    requires rows { length coefficients.now ≡ length factors.now }
+    requires members { length factors.now ≤ max_members }
+    requires margin { margin ≤ 2 }
+    ensures exact { result ≡ sum_below (length factors.now) (term_in by coefficients.now factors.now margin) }
     ensures small { result ≤ 2 ^ 117 }
 {
     let first = first_place(by.kind);
-    sum_of(0, count, |i| {
-        let at = COEFFICIENTS * i + first;
-        let factor = raised(factors[i], margin * i as u64);
-        weighted(factor, coefficients[at], coefficients[at + 1], by.x, by.y)
-    })
+    coefficients
+        .iter()
+        .zip(factors)
+        .enumerate()
+        .map(|(i, (numbers, factor))| {
+            // A u64 has no `From<usize>`; the cast cuts nothing.
+            let factor = raised(*factor, margin * i as u64);
+            weighted(factor, numbers[first], numbers[first + 1], by.x, by.y)
+        })
+        .fold(Wide::from(0), Wide::wrapping_add)
 }

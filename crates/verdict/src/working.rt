@@ -1,11 +1,10 @@
 // The equilibrium factor and the working levels.
-ghost use Rattle.std.specs.Prelude.{◌≡◌, ◌*◌, ◌^◌, ◌≤◌, get_or};
+ghost use Rattle.std.specs.Prelude.{◌≡◌, ◌*◌, ◌^◌, ◌≤◌, length};
 ghost use Rattle.book.specs.Limits.{max_members};
-ghost use Rattle.verdict.specs.WorkingLevels.{alpha_sum, working_levels};
-ghost use Rattle.verdict.specs.HeldNumbers.{number_in, WorkingInRange};
+ghost use Rattle.verdict.specs.WorkingLevels.{working_levels};
+ghost use Rattle.verdict.specs.HeldNumbers.{alpha_in, WorkingInRange};
 
-use crate::total::sum_of;
-use book::{COEFFICIENTS, MAX_MEMBERS};
+use book::Coefficients;
 use wide::Wide;
 
 // One whole, in millionths.
@@ -26,21 +25,19 @@ pub struct WorkingLevels {
     pub micro: u64,
 }
 
-// The sum of alpha energy weight times factor over every member but the gas.
-pub fn alpha_sum(
-    count: usize,
-    coefficients: &[u32; COEFFICIENTS * MAX_MEMBERS],
-    factors: &[u64; MAX_MEMBERS],
-) -> Wide
-    requires { (1 ≤ count) × (count ≤ max_members) }
-    ensures exact { result ≡ alpha_sum count (number_in coefficients.now) (λ i. get_or factors.now i 0) }
+// The sum of alpha energy weight times factor over every member but the gas; like Low it does not pass six limbs.
+pub fn alpha_sum(coefficients: &[Coefficients], factors: &[u64]) -> Wide
+    requires rows { length coefficients.now ≡ length factors.now }
+    requires members { length factors.now ≤ max_members }
+    ensures exact { result ≡ alpha_in coefficients.now factors.now }
     ensures small { result ≤ 2 ^ 117 }
 {
-    sum_of(
-        1,
-        count,
-        |i| alpha_term(factors[i], coefficients[COEFFICIENTS * i + ALPHA]),
-    )
+    coefficients
+        .iter()
+        .zip(factors)
+        .skip(1)
+        .map(|(numbers, factor)| alpha_term(*factor, numbers[ALPHA]))
+        .fold(Wide::from(0), Wide::wrapping_add)
 }
 
 fn alpha_term(factor: u64, weight: u32) -> Wide
@@ -52,6 +49,7 @@ fn alpha_term(factor: u64, weight: u32) -> Wide
 
 // From the alpha sums at the rate and at rate 0: none where no member but the gas has an alpha energy weight and a
 // factor. The first is no more than the second, so the quotient is at most one whole.
+#[tactic(auto, unfolding(crate::specs::WorkingLevels::working_levels))]
 pub fn working_levels(
     at_rate: Wide,
     at_zero: Wide,
@@ -64,11 +62,12 @@ pub fn working_levels(
     if at_zero == Wide::from(0) {
         return None;
     }
-    let equilibrium = at_rate
+    let quotient = at_rate
         .wrapping_mul(MILLION)
-        .capped_quotient(at_zero, MILLION) as u64;
+        .capped_quotient(at_zero, MILLION);
+    let equilibrium = u64::from(quotient);
     Some(WorkingLevels {
         equilibrium,
-        micro: TENTHS * concentration * equilibrium / (PER_PICOCURIE * divisor as u64),
+        micro: TENTHS * concentration * equilibrium / (PER_PICOCURIE * u64::from(divisor)),
     })
 }

@@ -2,10 +2,6 @@
 -- takes both carries.
 use Rattle.std.proofs.Common.{◌≡◌, ℕ, ◌+◌, ◌*◌, ◌/◌, ◌%◌, ◌^◌, ap₂, arith}
 
-multiplied : (f k f1 f0 k1 k0 : ℕ) → f ≡ f1 * 2 ^ 32 + f0 → k ≡ k1 * 2 ^ 32 + k0
-    → f * k ≡ (f1 * 2 ^ 32 + f0) * (k1 * 2 ^ 32 + k0)
-multiplied f k f1 f0 k1 k0 e g = ap₂ (λ (x y : ℕ). x * y) e g
-
 pub columns : (f k : ℕ) {f1 f0 k1 k0 lowest inner middle outer highest : ℕ}
     → f1 ≡ f / 2 ^ 32 → f0 ≡ f % 2 ^ 32 → k1 ≡ k / 2 ^ 32 → k0 ≡ k % 2 ^ 32 → lowest ≡ f0 * k0 → inner ≡ f1 * k0
     → middle ≡ inner + lowest / 2 ^ 32 → outer ≡ f0 * k1 → highest ≡ f1 * k1
@@ -13,5 +9,5 @@ pub columns : (f k : ℕ) {f1 f0 k1 k0 lowest inner middle outer highest : ℕ}
     ≡ (highest + middle / 2 ^ 32 + (outer + middle % 2 ^ 32) / 2 ^ 32) * 2 ^ 64
     + ((outer + middle % 2 ^ 32) % 2 ^ 32 * 2 ^ 32 + lowest % 2 ^ 32)
 columns f k {f1} {f0} {k1} {k0} e1 e0 g1 g0 el ei em eo eh =
-    let p : f * k ≡ (f1 * 2 ^ 32 + f0) * (k1 * 2 ^ 32 + k0) = multiplied f k f1 f0 k1 k0 (omega arith) (omega arith) in
+    let p : f * k ≡ (f1 * 2 ^ 32 + f0) * (k1 * 2 ^ 32 + k0) = ap₂ (λ (x y : ℕ). x * y) (omega arith) (omega arith) in
     omega arith

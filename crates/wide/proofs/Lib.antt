@@ -3,6 +3,7 @@
 pub mod Bounds
 pub mod Results
 pub mod LargestFactor
+mod Carrying
 mod Guess
 mod Halves
 mod Halving

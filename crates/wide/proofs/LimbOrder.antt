@@ -1,8 +1,9 @@
 -- The order of two numbers is that of their limbs, the highest first: where the numbers above a limb differ they decide,
 -- since the limb is worth less than one of them.
-use Rattle.std.proofs.Common.{Ordering, Less, Equal, Greater, ◌≡◌, ◌==◌, ℕ, ◌+◌, ◌*◌, ◌^◌, ◌<◌, List, get_or, refl, ap, sym, subst, ◌∙◌, arith}
+use Rattle.std.proofs.Common.{Ordering, Less, Equal, Greater, ◌≡◌, ◌==◌, ℕ, ◌+◌, ◌*◌, ◌^◌, ◌<◌, List, get_or, refl, ap, subst, ◌∙◌, arith}
 use Rattle.std.proofs.lemmas.Cmp.{ranked}
 use Rattle.std.specs.Cmp.{nat_cmp_is, unsigned_ties, unsigned_tied}
+use Rattle.std.specs.Cmp.Derive.{then_next}
 use Rattle.std.specs.Cmp.Lexicographic.{pointwise, slice_cmp, lists_ties}
 use Rattle.std.specs.Ordering.{nat_cmp, ordering_then, is_eq}
 use Rattle.wide.specs.Limbs.{SixLimbs, number, listed, listed_same}
@@ -28,23 +29,6 @@ limb_below x y v w hx hy Equal Greater e f =
     let lower : y < x = ranked x y Greater f in
     nat_cmp_is (x + 2 ^ 32 * v) (y + 2 ^ 32 * w) Greater (omega arith)
 
--- Lists whose first elements differ are ordered by these, and lists whose first elements are equal by the rest.
-decided_by : (x y : ℕ) (rest found : Ordering) → found ≡ nat_cmp x y → (x ≡ y → ⊥) → ordering_then found rest ≡ found
-decided_by x y rest Less e n = refl
-decided_by x y rest Equal e n = absurd (n (ranked x y Equal e))
-decided_by x y rest Greater e n = refl
-
-pub decided : (x y : ℕ) (rest : Ordering) → (x ≡ y → ⊥) → ordering_then (nat_cmp x y) rest ≡ nat_cmp x y
-decided x y rest n = decided_by x y rest (nat_cmp x y) refl n
-
-pub undecided : (x y : ℕ) (rest : Ordering) → x ≡ y → ordering_then (nat_cmp x y) rest ≡ rest
-undecided x y rest e = ap (λ (found : Ordering). ordering_then found rest) (sym (nat_cmp_is x y Equal e))
-
-grouped : (a b c : Ordering) → ordering_then a (ordering_then b c) ≡ ordering_then (ordering_then a b) c
-grouped Less b c = refl
-grouped Equal b c = refl
-grouped Greater b c = refl
-
 last : (a : Ordering) → ordering_then a Equal ≡ a
 last Less = refl
 last Equal = refl
@@ -57,8 +41,9 @@ regrouped : (a b c d e f : Ordering)
     ≡ ordering_then (ordering_then (ordering_then (ordering_then (ordering_then a b) c) d) e) f
 regrouped a b c d e f =
     rw last
-    (grouped a b _ ∙ grouped (ordering_then a b) c _ ∙ grouped (ordering_then (ordering_then a b) c) d _
-    ∙ grouped (ordering_then (ordering_then (ordering_then a b) c) d) e f)
+    (then_next a b _ refl refl ∙ then_next (ordering_then a b) c _ refl refl
+    ∙ then_next (ordering_then (ordering_then a b) c) d _ refl refl
+    ∙ then_next (ordering_then (ordering_then (ordering_then a b) c) d) e f refl refl)
 
 module _ {a b : List ℕ} (s : SixLimbs a) (t : SixLimbs b) where
   abbrev here : ℕ → Ordering

@@ -4,6 +4,7 @@ ghost use Rattle.wide.specs.Value.{modulus};
 
 use crate::columns::{Settled, limb_product, limb_sum, settle};
 use crate::number::Wide;
+use std::array::from_fn;
 
 impl Wide {
     // The sum modulo 2^192.
@@ -12,14 +13,7 @@ impl Wide {
     {
         let a = self.limbs;
         let b = other.limbs;
-        let settled = settle(
-            limb_sum(a[5], b[5]),
-            limb_sum(a[4], b[4]),
-            limb_sum(a[3], b[3]),
-            limb_sum(a[2], b[2]),
-            limb_sum(a[1], b[1]),
-            limb_sum(a[0], b[0]),
-        );
+        let settled = settle(from_fn(|i| limb_sum(a[i], b[i])));
         settled.number
     }
 
@@ -37,13 +31,6 @@ impl Wide {
         ensures within { result.number < modulus }
     {
         let a = self.limbs;
-        settle(
-            limb_product(a[5], k),
-            limb_product(a[4], k),
-            limb_product(a[3], k),
-            limb_product(a[2], k),
-            limb_product(a[1], k),
-            limb_product(a[0], k),
-        )
+        settle(from_fn(|i| limb_product(a[i], k)))
     }
 }

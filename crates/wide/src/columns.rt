@@ -1,6 +1,7 @@
 // The one chain of carries: six columns of up to 64 bits become six limbs and what is left over.
-ghost use Rattle.std.specs.Prelude.{◌≡◌, ◌+◌, ◌-◌, ◌*◌, ◌/◌, ◌%◌, ◌^◌, ◌<◌, ◌≤◌, [], ◌∷◌};
-ghost use Rattle.wide.specs.Value.{value, modulus};
+ghost use Rattle.std.specs.Prelude.{◌≡◌, ℕ, ◌+◌, ◌-◌, ◌*◌, ◌/◌, ◌%◌, ◌^◌, ◌<◌, ◌≤◌, slice_index};
+ghost use Rattle.wide.specs.Limbs.{number};
+ghost use Rattle.wide.specs.Value.{modulus};
 
 use crate::number::Wide;
 
@@ -15,32 +16,33 @@ pub(crate) struct Settled {
 pub(crate) fn limb_sum(x: u32, y: u32) -> u64
     ensures { (result ≡ x + y) × (result ≤ 2 ^ 64 - 2 ^ 32) }
 {
-    x as u64 + y as u64
+    u64::from(x) + u64::from(y)
 }
 
 // The column of a product: one limb times another, which leaves room for two carries.
 pub(crate) fn limb_product(x: u32, k: u32) -> u64
     ensures { (result ≡ x * k) × (result ≤ 2 ^ 64 - 2 ^ 33 + 1) }
 {
-    x as u64 * k as u64
+    u64::from(x) * u64::from(k)
 }
 
-// Carries from the lowest column up; a column leaves room for the carry into it.
-pub(crate) fn settle(c0: u64, c1: u64, c2: u64, c3: u64, c4: u64, c5: u64) -> Settled
-    requires { (c1 ≤ 2 ^ 64 - 2 ^ 32) × (c2 ≤ 2 ^ 64 - 2 ^ 32) × (c3 ≤ 2 ^ 64 - 2 ^ 32)
-        × (c4 ≤ 2 ^ 64 - 2 ^ 32) × (c5 ≤ 2 ^ 64 - 2 ^ 32) }
-    ensures whole { value (c0 ∷ c1 ∷ c2 ∷ c3 ∷ c4 ∷ c5 ∷ []) ≡ result.number + modulus * result.carry }
+// Carries from the lowest column up, which is the last; each column above it leaves room for the carry into it.
+pub(crate) fn settle(columns: [u64; 6]) -> Settled
+    requires { (k : ℕ) → k < 5 → slice_index columns k ≤ 2 ^ 64 - 2 ^ 32 }
+    ensures whole { number columns ≡ result.number + modulus * result.carry }
     ensures within { result.number < modulus }
 {
-    let d1 = carried(c1, c0);
-    let d2 = carried(c2, d1);
-    let d3 = carried(c3, d2);
-    let d4 = carried(c4, d3);
-    let d5 = carried(c5, d4);
-    let limbs = [low(d5), low(d4), low(d3), low(d2), low(d1), low(c0)];
+    let mut limbs = [0; 6];
+    let mut carry = 0;
+    // By the index, since nothing is known after a loop of what it wrote through `zip` and `rev` of `iter_mut`.
+    for i in (0..6).rev() {
+        let column = columns[i] + carry;
+        limbs[i] = low(column);
+        carry = column / 0x1_0000_0000;
+    }
     Settled {
         number: Wide { limbs },
-        carry: d5 / 0x1_0000_0000,
+        carry,
     }
 }
 
@@ -53,6 +55,7 @@ pub(crate) fn carried(column: u64, below: u64) -> u64
 }
 
 // The limb that stays in a column once the rest is carried.
+// This cast and that of `upper` cut nothing: each is of a number below 2^32.
 pub(crate) fn low(column: u64) -> u32
     ensures { result ≡ column % 2 ^ 32 }
 {

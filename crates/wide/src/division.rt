@@ -3,9 +3,9 @@ ghost use Rattle.std.specs.Prelude.{◌≡◌, ◌+◌, ◌*◌, ◌/◌, ◌%�
 
 use crate::digit::digit;
 use crate::product::product;
-use std::num::wrapping_add_u64;
 
 // f times k, divided by d and rounded down, modulo 2^64: 0 where d is 0.
+// Not `products_quotient` with a product of 0: as one function a factor call takes 13,135 instructions, past its limit of 12,500.
 pub fn product_quotient(f: u64, k: u64, d: u64) -> u64
     ensures { result ≡ f * k / d % 2 ^ 64 }
 {
@@ -26,9 +26,8 @@ pub fn products_quotient(a: u64, b: u64, c: u64, d: u64, e: u64) -> u64
     let first = product(a, b);
     let second = product(c, d);
     let high = sum_remainder(first.high, second.high, e);
-    let carry = sum_carry(first.low, second.low);
-    let low = wrapping_add_u64(first.low, second.low);
-    word_quotient(sum_remainder(high, carry, e), low, e)
+    let (low, carry) = first.low.overflowing_add(second.low);
+    word_quotient(sum_remainder(high, u64::from(carry), e), low, e)
 }
 
 // What d leaves of x + y, which may pass a word: the two remainders' sum, or where that reaches d what is over d.
@@ -43,13 +42,6 @@ fn sum_remainder(x: u64, y: u64, d: u64) -> u64
         return first + second;
     }
     first - room
-}
-
-// What x + y carries out of a word.
-fn sum_carry(x: u64, y: u64) -> u64
-    ensures { result ≡ (x + y) / 2 ^ 64 }
-{
-    if x <= u64::MAX - y { 0 } else { 1 }
 }
 
 // What d leaves of x. The high word is mostly below d already, and a test costs less than a division.
@@ -83,5 +75,5 @@ fn top_shift(word: u64) -> u32
     requires { 0 < word }
     ensures { (result < 64) × (2 ^ 63 ≤ word * 2 ^ result) × (word * 2 ^ result < 2 ^ 64) }
 {
-    u64::leading_zeros(word)
+    word.leading_zeros()
 }

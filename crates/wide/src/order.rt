@@ -41,6 +41,7 @@ impl Ord for Wide {
 
     ghost matches_eq = { Prim.search (comparing, rules) };
 
+    // By the limbs in turn: an array's own order has the limbs' laws, and these are the numbers'.
     fn cmp(&self, other: &Wide) -> Ordering {
         for (x, y) in self.limbs.iter().zip(other.limbs.iter()) {
             if x != y {

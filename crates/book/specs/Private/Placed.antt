@@ -1,17 +1,17 @@
--- Feeds in the first places of the arrays of shares and of froms.
-use Rattle.std.specs.Prelude.{ℕ, ◌≤◌, ◌≡◌, List, map, ◌++◌, length, replicate}
+-- Feeds in the first places of an array.
+use Rattle.std.specs.Prelude.{ℕ, ◌≤◌, ◌≡◌, List, map, ◌++◌, length}
 use Rattle.book.specs.Limits.{max_feeds}
-use Rattle.book.specs.Fields.{share, from}
-use Rattle.book.specs.Held.{over}
+use Rattle.book.specs.Held.{over, feed_of}
+use Rattle.book.specs.declared.feed.Feed.{Feed}
 
--- The feeds `done` stand in the first places, in order, and nothing stands after them.
-pub record Placed (book done shares froms : List ℕ) : Type 0 where
-  pub share_list : shares ≡ over (map (share book) done) (replicate max_feeds 0)
-  pub from_list : froms ≡ over (map (from book) done) (replicate max_feeds 0)
+-- The feeds `done` stand in the first places, in order, and nothing is changed after them.
+pub record Placed (book done : List ℕ) (before feeds : List Feed) : Type 0 where
+  pub size : length before ≡ max_feeds
+  pub list : feeds ≡ over (map (feed_of book) done) before
 
 -- These feeds are added from place `start` on, up to `end`.
-pub record Extended (book feeds : List ℕ) (start end : ℕ) (shares froms shares' froms' : List ℕ) : Type 0 where
+pub record Extended (book added : List ℕ) (start end : ℕ) (feeds feeds' : List Feed) : Type 0 where
   pub capacity : end ≤ max_feeds
   pub placed :
-      (done : List ℕ) → length done ≡ start → Placed book done shares froms →
-      (let all = done ++ feeds in (length all ≡ end) × Placed book all shares' froms')
+      (before : List Feed) (done : List ℕ) → length done ≡ start → Placed book done before feeds →
+      (let all = done ++ added in (length all ≡ end) × Placed book all before feeds')

@@ -7,7 +7,6 @@ ghost use Rattle.book.specs.BookGrounds.{feed_wrong, feed_out_of_range};
 use super::super::counts::{feed_count, member_count};
 use super::super::fields::{first_feed, from_of, next_of, share_of};
 use super::super::limits::WHOLE_SHARE;
-use super::bools::is_outside;
 use numbers::some_below;
 
 // A number of feed j is out of range.
@@ -15,7 +14,7 @@ use numbers::some_below;
 fn feed_wrong(book: &[u8], j: u16) -> bool
     ensures { result ≡ feed_wrong book.now j }
 {
-    let share_wrong = is_outside(1, WHOLE_SHARE, u64::from(share_of(book, j)));
+    let share_wrong = !(1..=WHOLE_SHARE).contains(&u64::from(share_of(book, j)));
     let from_wrong = member_count(book) <= u16::from(from_of(book, j));
     share_wrong | from_wrong | (feed_count(book) < u16::from(next_of(book, j)))
 }

@@ -9,7 +9,6 @@ use super::super::counts::member_count;
 use super::super::fields::{coefficient_of, half_life};
 use super::super::layout::COEFFICIENTS;
 use super::super::limits::{MAX_COEFFICIENT, MAX_HALF_LIFE, MAX_PARENT_HALF_LIFE};
-use super::bools::is_outside;
 use numbers::some_below;
 
 // The longest half-life that member i may have.
@@ -27,6 +26,7 @@ fn longest_half_life(i: u16) -> u64
 fn coefficient_too_high(book: &[u8], i: u16) -> bool
     ensures { result ≡ some_below coefficient_count (λ which. ltb max_coefficient (coefficient book.now i which)) }
 {
+    // There are five, so that nothing is cut.
     some_below(
         COEFFICIENTS as u16,
         |which| MAX_COEFFICIENT < coefficient_of(book, i, which),
@@ -37,7 +37,7 @@ fn coefficient_too_high(book: &[u8], i: u16) -> bool
 fn member_wrong(book: &[u8], i: u16) -> bool
     ensures { result ≡ member_wrong book.now i }
 {
-    let half_life_wrong = is_outside(1, longest_half_life(i), half_life(book, i));
+    let half_life_wrong = !(1..=longest_half_life(i)).contains(&half_life(book, i));
     half_life_wrong | coefficient_too_high(book, i)
 }
 

@@ -27,6 +27,7 @@ fn sum_shares(book: &[u8], sums: &mut [u64; MAX_MEMBERS])
     ensures { SharesSummed book.now sums.new }
 {
     let count = feed_count(book);
+    // A feed's number is what its fields are read by: the feeds are bytes, and no list of them is held.
     for j in 0..count {
         add_share(sums, from_of(book, j + 1), share_of(book, j + 1));
     }

@@ -27,6 +27,7 @@ fn count_walk(book: &[u8], counts: &mut [u8; 256])
         Counted counts.old (walk bytes (members bytes)) counts.new }
 {
     let count = member_count(book);
+    // A member's number is what its feeds are read by: the members are bytes, and no list of them is held.
     for i in 0..count {
         count_along(book, i, counts);
     }

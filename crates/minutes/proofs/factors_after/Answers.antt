@@ -7,9 +7,9 @@ use Rattle.minutes.proofs.Checking.{periods_pass, factors_after_length}
 use Rattle.minutes.proofs.Promised.{kept}
 use Rattle.minutes.proofs.factors_after.Goals as goal
 
-pub pass_periods-requires : goal.pass_periods-requires
-pass_periods-requires c =
-    periods_pass c.args.periods.now c.args.book.now (length c.args.out.now) (sym c.in_ok-check_periods.ensures)
+pub pass_periods-members-requires-clause-rates_within : goal.pass_periods-members-requires-clause-rates_within
+pass_periods-members-requires-clause-rates_within c =
+    (periods_pass c.args.periods.now c.args.book.now (length c.args.out.now) (sym c.in_ok-check_periods.ensures)).0
 
 pub returns : goal.returns
 returns c =
@@ -18,8 +18,7 @@ returns c =
     let list = c.args.out.now in
     let factors = factors_after periods book in
     let passed = sym c.in_ok-check_periods.ensures in
-    let passes = periods_pass periods book (length list) passed in
-    let size = factors_after_length periods book passes.accepted in
-    let answered = filled_answer (sym passed) (members book) factors list refl c.member_count.ensures.value in
-    let written = filled_list (sym passed) (members book) factors list refl size c.pass_periods.ensures in
+    let size = factors_after_length periods book (periods_pass periods book (length list) passed).1 in
+    let answered = filled_answer (sym passed) (members book) factors list refl c.pass_periods-members.ensures.counted in
+    let written = filled_list (sym passed) (members book) factors list refl size c.pass_periods-members.ensures.passed in
     record { answered = answered; written = written; sound = kept periods book list answered written }

@@ -9,11 +9,9 @@ use Rattle.balance.specs.Exact.{numerators, denominator}
 use Rattle.minutes.specs.Minutes.{minute, minutes, rate_of, after_periods}
 use Rattle.minutes.specs.Periods.{period_count}
 
--- Each rate is within its limit, the book is accepted, and the list has a place for each member.
-pub record PeriodsPass (periods book : List ℕ) (capacity : ℕ) : Type 0 where
-  pub rates : (p : ℕ) → p < period_count periods → rate_of periods p ≤ max_rate
-  pub accepted : Accepted book
-  pub enough : members book ≤ capacity
+-- Each period's rate is within its limit.
+abbrev pub RatesWithin : List ℕ → Type 0
+RatesWithin periods = (p : ℕ) → p < period_count periods → rate_of periods p ≤ max_rate
 
 -- A minute of a book's members at rate v, and k minutes.
 abbrev pub minute_at : List ℕ → ℕ → List ℕ → List ℕ

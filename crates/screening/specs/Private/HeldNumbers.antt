@@ -1,6 +1,6 @@
 -- The figures that are worked out from the arrays that the code holds of a book: its members' numbers, and their
 -- factors.
-use Rattle.std.specs.Prelude.{ℕ, ◌≤◌, ◌<◌, List, Option}
+use Rattle.std.specs.Prelude.{ℕ, ◌≤◌, ◌<◌, ◌≡◌, List, length, Option}
 use Rattle.verdict.specs.HeldNumbers.{assessment_in, alpha_in, judged_on, Judgeable}
 use Rattle.verdict.specs.WorkingLevels.{working_levels}
 use Rattle.screening.specs.declared.job.Figures.{Figures}
@@ -13,14 +13,14 @@ use Rattle.verdict.specs.declared.working.WorkingLevels.{WorkingLevels}
 abbrev pub figures_by : ℕ → Judgement → Option WorkingLevels → Figures
 figures_by C judged working = record { concentration = C; verdict = judged.verdict; level = judged.level; working = working }
 
-abbrev pub figures_in : Criterion → ℕ → ℕ → ℕ → List ℕ → List ℕ → List ℕ → Figures
-figures_in by C count W coefficients factors at_zero =
+abbrev pub figures_in : Criterion → ℕ → ℕ → List (List ℕ) → List ℕ → List ℕ → Figures
+figures_in by C W coefficients factors at_zero =
     figures_by C
-    (judged_on (assessment_in by count coefficients factors) C)
-    (working_levels (alpha_in count coefficients factors) (alpha_in count coefficients at_zero) C W)
+    (judged_on (assessment_in by coefficients factors) C)
+    (working_levels (alpha_in coefficients factors) (alpha_in coefficients at_zero) C W)
 
-pub record Figurable (by : Criterion) (C count W : ℕ) (coefficients factors at_zero : List ℕ) : Type 0 where
-  pub judgeable : Judgeable by C count factors
-  pub some_members : 1 ≤ count
-  pub falls : alpha_in count coefficients factors ≤ alpha_in count coefficients at_zero
+pub record Figurable (by : Criterion) (C W : ℕ) (coefficients : List (List ℕ)) (factors at_zero : List ℕ) : Type 0 where
+  pub judgeable : Judgeable by C coefficients factors
+  pub zeroed_rows : length coefficients ≡ length at_zero
+  pub falls : alpha_in coefficients factors ≤ alpha_in coefficients at_zero
   pub some_divisor : 0 < W

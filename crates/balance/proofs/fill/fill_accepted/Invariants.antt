@@ -5,4 +5,6 @@ use Rattle.balance.specs.Factors.{factor_at}
 use Rattle.balance.proofs.fill.fill_accepted.Given as goal
 
 abbrev pub invariant-loop-i : goal.invariant-loop-i
-invariant-loop-i l = Filled (factor_at l.book l.v) l.initial.out (members l.book) l.i l.out
+invariant-loop-i l =
+    let book = l.chain.chain.now.bytes.now in
+    Filled (factor_at book l.v.hundredths) l.initial.out (members book) l.i l.out

@@ -15,10 +15,10 @@ loop-feed-init c =
 
 pub loop-feed-preserved : goal.loop-feed-preserved
 loop-feed-preserved c =
-    let rest : feeds_left c.loop-feed.feed-iterator ≡ c.from-j.result ∷ feeds_left c.next.new.self =
-    rw c.from-j.ensures c.in-Some.ensures.steps
+    let rest : feeds_left c.loop-feed.feed-iterator ≡ c.from.result ∷ feeds_left c.next.new.self =
+    rw c.from.ensures c.in-Some.ensures.steps
     in
-    extending_more c.loop-feed.invariant rest c.share_of.ensures c.from_of.ensures
+    extending_more c.loop-feed.invariant rest c.feed_of.ensures
 
 pub returns : goal.returns
 returns c = extending_all c.loop-feed.invariant c.in-None.ensures.steps.0

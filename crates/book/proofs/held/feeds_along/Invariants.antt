@@ -8,5 +8,5 @@ use Rattle.book.proofs.held.feeds_along.Given as goal
 
 abbrev pub invariant-loop-feed : goal.invariant-loop-feed
 invariant-loop-feed l =
-    let feeds = along (next l.book) (max_feeds - l.start) (first_feed l.book l.i) in
-    Extending l.book feeds l.start l.initial.shares l.initial.froms l.shares l.froms (feeds_left l.feed-iterator) l.at
+    let added = along (next l.book) (max_feeds - l.start) (first_feed l.book l.i) in
+    Extending l.book added l.start l.initial.feeds l.feeds (feeds_left l.feed-iterator) l.at

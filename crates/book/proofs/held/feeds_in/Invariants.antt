@@ -3,4 +3,4 @@ use Rattle.book.proofs.Placed.{InOrder}
 use Rattle.book.proofs.held.feeds_in.Given as goal
 
 abbrev pub invariant-loop-i : goal.invariant-loop-i
-invariant-loop-i l = InOrder l.book l.members l.initial.ends l.i l.at l.ends l.shares l.froms
+invariant-loop-i l = InOrder l.book l.members l.initial.ends l.i l.at l.ends l.initial.feeds l.feeds

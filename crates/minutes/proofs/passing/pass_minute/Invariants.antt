@@ -9,5 +9,6 @@ use Rattle.minutes.proofs.passing.pass_minute.Given as goal
 
 abbrev pub invariant-loop-i : goal.invariant-loop-i
 invariant-loop-i l =
-    let factors = renewed (scale_of l.book) (chain_of l.book) (rates_at l.book l.v) l.initial.out in
-    Filled factors l.initial.out (members l.book) l.i l.out
+    let book = l.chain.chain.now.bytes.now in
+    let factors = renewed (scale_of book) (chain_of book) (rates_at book l.v.hundredths) l.initial.out in
+    Filled factors l.initial.out (members book) l.i l.out

@@ -7,4 +7,5 @@ use Rattle.minutes.proofs.passing.pass_minutes.Given as goal
 
 abbrev pub invariant-loop-passed : goal.invariant-loop-passed
 invariant-loop-passed l =
-    Reached l.book l.initial.out (minutes_at l.book l.v l._passed (take (members l.book) l.initial.out)) l.out
+    let book = l.chain.chain.now.bytes.now in
+    Reached book l.initial.out (minutes_at book l.v.hundredths l._passed (take (members book) l.initial.out)) l.out

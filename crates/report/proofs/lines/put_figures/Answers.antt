@@ -6,4 +6,5 @@ pub returns : goal.returns
 returns g c =
     let laws = g.met.S.Sink.laws in
     let judged = and_then laws c.put_line.ensures c.put_verdict.ensures in
-    and_then laws (and_then laws judged c.put_line-2.ensures) c.put_working.ensures
+    let level = rw c.from.ensures at c.put_line-2.ensures in
+    and_then laws (and_then laws judged level) c.put_working.ensures

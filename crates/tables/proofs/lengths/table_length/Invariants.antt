@@ -5,4 +5,4 @@ use Rattle.tables.specs.Table.{rate_line}
 use Rattle.tables.proofs.lengths.table_length.Given as goal
 
 abbrev pub invariant-loop-rate : goal.invariant-loop-rate
-invariant-loop-rate l = l.total ≡ length (each (rate_line l.book) 0 (take l.rate-index l.rates))
+invariant-loop-rate l = l.total ≡ length (each (rate_line l.chain.chain.now.bytes.now) 0 (take l.rate-index l.rates))

@@ -8,6 +8,7 @@ use Rattle.ventilation.proofs.search.failing_rates.Goals as goal
 pub returns : goal.returns
 returns c =
     let x = c.args in
+    let book = x.chain.chain.now.bytes.now in
     let numbers = number_in x.coefficients.now in
-    c.first_where.ensures.first (below_at x.by x.book.now numbers x.concentration) (λ rate answer less is. search rules)
-    (below_rises x.by x.book.now numbers x.concentration c.requires.screenable.accepted)
+    c.first_where.ensures.first (below_at x.by book numbers x.concentration) (λ rate answer less is. search rules)
+    (below_rises x.by book numbers x.concentration x.chain.accepted)

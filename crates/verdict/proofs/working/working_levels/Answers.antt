@@ -1,5 +1,5 @@
 -- The sum at the rate is no more than the sum at rate 0, so a quotient capped at one whole is the quotient.
-use Rattle.std.proofs.Common.{◌≡◌, ℕ, ◌*◌, ◌≤◌, ◌<◌, true, false, eqb, sym, ◌∙◌, le_refl, le_trans, lit<, arith}
+use Rattle.std.proofs.Common.{◌≡◌, ℕ, ◌*◌, ◌≤◌, ◌<◌, false, eqb, sym, ◌∙◌, le_refl, le_trans, lit<, arith}
 use Rattle.std.proofs.Math.Nat.{min-eq_right, div-le_of_le-mul}
 use borrow.Author.Tests.{eqb-false}
 use native.Mathlib.Nat.{pos_of_ne-zero}
@@ -14,12 +14,6 @@ equilibrium_is {m} {r} {z} s e falls pos =
     let whole : m ≡ 1000000 * r = omega arith in
     (rw whole at (least_of_both pos s)) ∙ min-eq_right (div-le_of_le-mul z (omega arith))
 
-pub returns-then-eq : goal.returns-then-eq
-unfolding working_levels
-returns-then-eq c =
-    let none : eqb c.args.at_zero 0 ≡ true = rw c.from.ensures at (sym c.eq.ensures ∙ c.if-eq.true) in
-    rw none
-
 pub returns : goal.returns
 unfolding working_levels
 returns c =
@@ -27,4 +21,5 @@ returns c =
     let pos : 0 < c.args.at_zero = pos_of_ne-zero (eqb-false c.args.at_zero 0 some) in
     let sum = held {x = c.args.at_rate} (le_trans c.requires.falls c.requires.sums) in
     let millions = multiple_held c.wrapping_mul.ensures sum (le_refl 1000000) (lit< tt) in
-    rw (some, equilibrium_is c.capped_quotient-equilibrium.ensures millions.is c.requires.falls pos)
+    let whole = equilibrium_is c.capped_quotient-quotient.ensures millions.is c.requires.falls pos in
+    rw (some, c.from-equilibrium.ensures, c.from-2.ensures, whole)
