@@ -1,7 +1,7 @@
 -- The factor call: a rate, a book and a lent list in; checks 3, 9 to 19.
 use Rattle.refusals.specs.declared.Refusal.{Refusal}
 use Rattle.std.specs.Prelude.{ℕ, ◌-◌, List, [], ◌∷◌, ◌++◌, length, ltb, Result}
-use Rattle.book.specs.Rates.{max_rate, rates_at}
+use Rattle.book.specs.Rates.{rate_too_high, rates_at}
 use Rattle.book.specs.Fields.{members, scale_of}
 use Rattle.refusals.specs.Grounds.{Ground, ground_of, first_met, answer_if, written_if}
 use Rattle.book.specs.BookGrounds.{book_grounds}
@@ -17,10 +17,10 @@ factors_at book v = reported (scale_of book) (chain_of book) (rates_at book v) (
 abbrev pub factor_at : List ℕ → ℕ → ℕ → ℕ
 factor_at book v i = reported_factor (scale_of book) (chain_of book) (rates_at book v) i
 
--- 3. v exceeds 100,000; the book's grounds; 19. the lent list is shorter than n.
+-- 3; the book's grounds; 19. the lent list is shorter than n.
 abbrev pub factor_grounds : ℕ → List ℕ → ℕ → List Ground
 factor_grounds v book capacity =
-    ground_of RateTooHigh (ltb max_rate v) ∷ book_grounds book ++ (ground_of ListTooShort (ltb capacity (members book)) ∷ [])
+    ground_of RateTooHigh (rate_too_high v) ∷ book_grounds book ++ (ground_of ListTooShort (ltb capacity (members book)) ∷ [])
 
 -- Accepted, the call answers n, and the first n places of the list hold the factors.
 abbrev pub factor_answer : ℕ → List ℕ → ℕ → Result ℕ Refusal

@@ -11,19 +11,7 @@ use Rattle.std.specs.Bool.{MatchBool}
 use Rattle.std.specs.Iterator.Runs.{Run, AnyItemGives, AllItemsGive, CallKeepsClosure}
 use Rattle.std.proofs.lemmas.Option.{slice_get_cases}
 use Rattle.numbers.specs.Tests.{some_below}
-use Rattle.numbers.proofs.NoneMet.{none_below}
-
-passes_at : (q : ℕ → Bool) (n k : ℕ) → k < n → true ≡ q k → some_below n q ≡ true
-passes_at q n k l pass = met (some_below n q) (λ none. none_below n q none k l)
-  where
-    met : (b : Bool) → (b ≡ false → q k ≡ false) → b ≡ true
-    met true none = refl
-    met false none = absurd (true≢false (pass ∙ none refl))
-
-none_passes : (q : ℕ → Bool) (n : ℕ) → ((k : ℕ) → k < n → false ≡ q k) → some_below n q ≡ false
-unfolding some_below
-none_passes q zero fails = refl
-none_passes q (suc n) fails = rw (none_passes q n (λ k l. fails k (omega arith)), ← fails n (omega arith)) refl
+use Rattle.numbers.proofs.Tested.{passes_at, none_passes}
 
 module _ {S A F : Type 0} {steps : S → Option A → S → Type 0} {g : Mut F (A × Unit {0}) Bool} {f : F} (p : Run steps) (n : ℕ) (q : ℕ → Bool) where
   pub some_of_run :
@@ -37,14 +25,14 @@ module _ {S A F : Type 0} {steps : S → Option A → S → Type 0} {g : Mut F (
       at_item : (k : ℕ) (o : Option A) → IfSome o (λ x. (k < n) × ((b : Bool) → Called g f (x, tt) b f → b ≡ q k)) →
           IsSomeAnd o (λ x. Called g f (x, tt) true f) → true ≡ some_below n q
       at_item k None says h = absurd h
-      at_item k (Some x) says h = sym (passes_at q n k says.0 (says.1 true h))
+      at_item k (Some x) says h = sym (passes_at q n k says.0 (sym (says.1 true h)))
   some_of_run keeps whole says false met =
       sym
-      (none_passes q n (λ k l.
+      (none_passes q n (λ k l. sym (
       elim (slice_get_cases p.items k).1 [
         | inl there ↦ at_each k (p.at k) (p.reads k there.0 (omega (arith, whole met.0))) (says k) (met.1 keeps k)
         | inr past ↦ absurd (omega (arith, past.0, p.long, whole met.0))
-      ]))
+      ])))
     where
       at_each : (k : ℕ) (o : Option A) {x : A} → option_map (λ y. y) o ≡ Some x →
           IfSome o (λ x. (k < n) × ((b : Bool) → Called g f (x, tt) b f → b ≡ q k)) → IfSome o (λ x. Called g f (x, tt) false f) → false ≡ q k

@@ -6,7 +6,7 @@ use Rattle.refusals.specs.declared.Refusal.TheVariants.{RateTooHigh, PeriodsOutO
 use Rattle.book.specs.Fields.{members, scale_of}
 use Rattle.numbers.specs.Tests.{outside, some_below}
 use Rattle.book.specs.BookGrounds.{book_grounds}
-use Rattle.book.specs.Rates.{max_rate, rates_at}
+use Rattle.book.specs.Rates.{rate_too_high, rates_at}
 use Rattle.balance.specs.Chain.{chain_of}
 use Rattle.minutes.specs.Minutes.{rate_of, minutes_of, after_periods}
 
@@ -23,7 +23,7 @@ period_count periods = length periods / 2
 
 -- 3. A rate exceeds 100,000, an unpaired last number included.
 unfoldable pub period_rate_too_high : List ℕ → Bool
-period_rate_too_high periods = some_below ((length periods + 1) / 2) (λ p. ltb max_rate (rate_of periods p))
+period_rate_too_high periods = some_below ((length periods + 1) / 2) (λ p. rate_too_high (rate_of periods p))
 
 -- 22. The list's length is odd or the count or length of periods is out of range.
 unfoldable pub periods_out_of_range : List ℕ → Bool

@@ -25,7 +25,7 @@ use Rattle.std.proofs.lemmas.List.Folds.{list_any_more}
 use Rattle.std.proofs.lemmas.List.FromFn.{length-range_with_len, get_or-range_with_len}
 use Rattle.numbers.specs.Tests.{some_below}
 
-passes_at : (p : ℕ → Bool) (n i : ℕ) → i < n → p i ≡ true → some_below n p ≡ true
+pub passes_at : (p : ℕ → Bool) (n i : ℕ) → i < n → p i ≡ true → some_below n p ≡ true
 unfolding some_below
 passes_at p zero i less pass = absurd (omega arith)
 passes_at p (suc n) i less pass = last_or_before (eq-or-lt_of_le (le_of_suc-le-suc less)) (λ l. passes_at p n i l pass)
@@ -34,7 +34,7 @@ passes_at p (suc n) i less pass = last_or_before (eq-or-lt_of_le (le_of_suc-le-s
     last_or_before (inl same) before = rw (← same, pass) (or-true (some_below i p))
     last_or_before (inr l) before = rw (before l) refl
 
-none_passes : (p : ℕ → Bool) (n : ℕ) → ((k : ℕ) → k < n → p k ≡ false) → some_below n p ≡ false
+pub none_passes : (p : ℕ → Bool) (n : ℕ) → ((k : ℕ) → k < n → p k ≡ false) → some_below n p ≡ false
 unfolding some_below
 none_passes p zero fails = refl
 none_passes p (suc n) fails =

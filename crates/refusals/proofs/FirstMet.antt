@@ -21,19 +21,6 @@ first_of_both [] hs = refl
 first_of_both (g ∷ gs) hs =
     ap (cond g.met (Err g.refusal)) (first_of_both gs hs) ∙ sym (choice_first g.met g.refusal (first_met gs) (first_met hs))
 
--- What a refusal or the later checks say, where the later checks agree with the rest of the grounds.
-pub choice :
-    {r later rest : Checked} {met condition : Bool} (refusal : Refusal) →
-    r ≡ cond met (Err refusal) later → met ≡ condition → later ≡ rest → r ≡ cond condition (Err refusal) rest
-choice refusal e m l = cc
-
--- What checks find that are made in this order: one, those of a list, and later ones.
-pub in_order :
-    (first : Refusal) (high : Bool) (middle later : List Ground) {met : Bool} {r found between last : Checked} →
-    r ≡ cond met (Err first) found → met ≡ high → found ≡ or_else between last → between ≡ first_met middle → last ≡ first_met later →
-    r ≡ cond high (Err first) (first_met (middle ++ later))
-in_order first high middle later e m f b l = rw (first_of_both middle later) (cc)
-
 -- One ground is not met, and the rest pass.
 pub not_met : (met : Bool) (refusal : Refusal) (rest : Checked) → cond met (Err refusal) rest ≡ Ok tt → (met ≡ false) × (rest ≡ Ok tt)
 not_met true refusal rest e = absurd (let z : ◌≡◌ {A = ℕ} 0 1 = cc in omega arith)

@@ -3,7 +3,7 @@ use Rattle.std.specs.Prelude.{ℕ, Bool, not, ◌||◌, ◌&&◌, List, [], ◌�
 use Rattle.refusals.specs.Grounds.{Ground, ground_of, first_met, Checked}
 use Rattle.refusals.specs.declared.Refusal.TheVariants.{JobTooShort, CodeUnknown, RateTooHigh, TargetTooHigh, AttenuationOutOfRange, ExposureOutOfRange, ReadingUnusable, ConcentrationTooHigh}
 use Rattle.book.specs.BookGrounds.{book_grounds}
-use Rattle.book.specs.Rates.{max_rate}
+use Rattle.book.specs.Rates.{rate_too_high}
 use Rattle.verdict.specs.Verdict.{max_target}
 use Rattle.reading.specs.Reading.{reading_unusable, concentration_too_high, whole_attenuation}
 use Rattle.screening.specs.Job.{rate, kind, medium, unit, zero_byte, target, attenuation, reading_of, for_reading, exposure_of, job_length}
@@ -33,7 +33,7 @@ abbrev pub field_grounds : List ℕ → List Ground
 field_grounds job =
     ground_of JobTooShort (ltb (length job) job_length)
     ∷ ground_of CodeUnknown (code_unknown job)
-    ∷ ground_of RateTooHigh (ltb max_rate (rate job))
+    ∷ ground_of RateTooHigh (rate_too_high (rate job))
     ∷ ground_of TargetTooHigh (ltb max_target (target job))
     ∷ ground_of AttenuationOutOfRange (attenuation_out_of_range job)
     ∷ ground_of ExposureOutOfRange (exposure_out_of_range (exposure_of job))

@@ -6,7 +6,7 @@ use Rattle.refusals.specs.declared.Refusal.TheVariants.{RateTooHigh, RateCountOu
 use Rattle.book.specs.Limits.{max_members}
 use Rattle.numbers.specs.Tests.{outside, some_below}
 use Rattle.book.specs.BookGrounds.{book_grounds}
-use Rattle.book.specs.Rates.{max_rate}
+use Rattle.book.specs.Rates.{rate_too_high}
 use Rattle.tables.specs.Table.{table_text}
 
 abbrev pub max_rates : ℕ
@@ -22,7 +22,7 @@ table_room = max_rates * line_room
 
 -- 3. A rate exceeds 100,000.
 unfoldable pub some_rate_too_high : List ℕ → Bool
-some_rate_too_high rates = some_below (length rates) (λ i. ltb max_rate (get_or rates i 0))
+some_rate_too_high rates = some_below (length rates) (λ i. rate_too_high (get_or rates i 0))
 
 -- 20. The list of rates is empty or over 200.
 abbrev pub rate_count_out_of_range : List ℕ → Bool
