@@ -8,10 +8,10 @@ use lib.Dec.{lit<, ltb}
 use lib.Ieee.{Float, nan, inf, fin}
 use lib.Ieee.Fits.{down_pos}
 use Rattle.reading.specs.declared.amounts.Amount.{Amount}
-use Rattle.std.specs.Prelude.{Ok, Err}
+use Rattle.std.specs.Prelude.{Result, Ok, Err}
 use Rattle.std.proofs.lemmas.Result.{IfOk-at_ok}
 use Rattle.reading.specs.declared.error.ReadingError.{ReadingError}
-use Rattle.reading.specs.Reading.{figure, unusable, denominator_of, value_numerator, value_denominator, SmallestNotBelow, max_concentration, whole}
+use Rattle.reading.specs.Reading.{figure, unusable, denominator_of, value_numerator, value_denominator, SmallestNotBelow, max_concentration, whole, whole_answer}
 use Rattle.reading.specs.Promises.{ReadingPromise}
 use Rattle.reading.proofs.Ceiling.{rounded_up_smallest}
 use Rattle.reading.proofs.PartsJoined.{tested, whole_within}
@@ -41,7 +41,7 @@ unusable_answered true l n e = refl
 unusable_answered false true n e = cc
 unusable_answered false false n e = cc
 
-pub reading_promise : (amount : Amount) → ReadingPromise amount
+pub reading_promise : (amount : Amount) → ReadingPromise amount (whole_answer amount)
 reading_promise amount =
     let u = unusable (figure amount) in
     let w = whole amount in
@@ -55,3 +55,6 @@ reading_promise amount =
       only_unusable = unusable_answered u l w;
       every_unusable = λ e. rw e;
     }
+
+pub promised : (amount : Amount) {answer : Result ℕ ReadingError} → answer ≡ whole_answer amount → ReadingPromise amount answer
+promised amount e = rw e (reading_promise amount)

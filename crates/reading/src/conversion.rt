@@ -31,10 +31,10 @@ const LEAST_PLACES_POWER: u64 = 0x20_0000;
 const MOST_PLACES: u64 = 60;
 
 // The smallest whole number of mBq/m³ not below the amount's exact value.
-#[tactic(auto, using(crate::proofs::Promised::reading_promise), unfolding(crate::specs::Reading::whole, crate::specs::Private::Conversion::converted))]
+#[tactic(auto, using(crate::proofs::Promised::promised), unfolding(crate::specs::Reading::whole, crate::specs::Private::Conversion::converted))]
 pub fn whole(amount: Amount) -> Result<u64, ReadingError>
     ensures answered { result ≡ whole_answer amount }
-    ensures sound { ReadingPromise amount }
+    ensures sound { ReadingPromise amount result }
 {
     match amount {
         Amount::PicocuriesPerLitre(x) => convert(x, PER_PICOCURIE_PER_LITRE),

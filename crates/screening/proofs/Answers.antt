@@ -1,5 +1,5 @@
--- What an answer with figures says: the checks passed, and the figures are the definition's. So its verdict keeps demand 3's promise,
--- and of two jobs that differ in the rate alone the one with the higher rate has no worse verdict.
+-- What an answer with figures says: the checks passed, and the figures are the definition's. So its verdict keeps demand 3's promise
+-- and its working levels theirs, and of two jobs that differ in the rate alone the one with the higher rate has no worse verdict.
 use Rattle.refusals.specs.declared.Refusal.{Refusal}
 use Rattle.refusals.specs.Grounds.{Checked}
 use Rattle.std.specs.Prelude.{Ok, Err, Result}
@@ -8,15 +8,19 @@ use native.Mathlib.Omega.{arith}
 use mathlib.Core.Path.{◌≡◌, refl, ap, sym, subst, ◌∙◌}
 use mathlib.Core.List.{List}
 use lib.ListN.{drop}
-use Rattle.book.specs.Fields.{coefficient}
+use Rattle.book.specs.Limits.{max_members}
+use Rattle.book.specs.Fields.{members, coefficient, working_level_divisor}
+use Rattle.book.proofs.Ranges.{few_members}
 use Rattle.exposure.specs.Totals.{Z}
 use Rattle.exposure.proofs.WithinLimits.{child_years}
 use Rattle.screening.specs.Job.{rate, rate_length, exposure_of, concentration_of, book_of}
 use Rattle.screening.specs.JobGrounds.{checked_job}
 use Rattle.verdict.specs.Verdict.{Assessment, verdict_at, verdict_order, level}
-use Rattle.screening.specs.Screening.{criterion_of, assessment_at, figures_at, answer_for, answer_of}
+use Rattle.screening.specs.Screening.{criterion_of, assessment_at, alpha_at, alpha_at_rest, figures_at, answer_for, answer_of}
+use Rattle.verdict.specs.WorkingLevels.{working_levels}
 use Rattle.verdict.specs.CommonFactor.{Unchanged}
-use Rattle.screening.specs.Promises.{AnswerPromise}
+use Rattle.verdict.proofs.LevelNumbers.{none_there, some_there}
+use Rattle.screening.specs.Promises.{AnswerPromise, LevelsPromise}
 use Rattle.screening.specs.declared.job.Answer.{Answer}
 use Rattle.screening.specs.declared.job.Figures.{Figures}
 use Rattle.verdict.specs.declared.verdict.Criterion.{Criterion}
@@ -24,7 +28,7 @@ use Rattle.verdict.specs.declared.verdict.Verdict.{Verdict}
 use Rattle.screening.proofs.JobChecks.{JobPasses, job_passes}
 use Rattle.screening.proofs.SameBytes.{judged_same}
 use Rattle.screening.proofs.Soundness.{verdict_promise}
-use Rattle.screening.proofs.Falling.{no_worse}
+use Rattle.screening.proofs.Falling.{no_worse, equilibrium_at_most_one}
 
 abbrev figures_of : List ℕ → List ℕ → Figures
 figures_of job book = figures_at (criterion_of job) book (coefficient book) (rate job) (concentration_of job)
@@ -34,19 +38,23 @@ judged by book v C = verdict_at (assessment_at by book (coefficient book) v) C
 
 screened_passed :
     (found : Checked) (job book : List ℕ) (answer : Answer) → answer_for found job book ≡ Ok answer →
-    (found ≡ Ok tt) × (answer.figures ≡ figures_of job book)
-screened_passed (Ok tt) job book answer e = (refl, cc)
+    (found ≡ Ok tt) × (answer.figures ≡ figures_of job book) × (answer.count ≡ members book)
+screened_passed (Ok tt) job book answer e = (refl, cc, cc)
 screened_passed (Err r) job book answer e = absurd (let z : ◌≡◌ {A = ℕ} 0 1 = cc in omega arith)
 
 module _ (job : List ℕ) (answer : Answer) (answered : answer_of job ≡ Ok answer) where
   abbrev figures : Figures
   figures = answer.figures
 
-  screened : (checked_job job (book_of job) ≡ Ok tt) × (figures ≡ figures_of job (book_of job))
+  screened :
+      (checked_job job (book_of job) ≡ Ok tt) × (figures ≡ figures_of job (book_of job)) × (answer.count ≡ members (book_of job))
   screened = screened_passed (checked_job job (book_of job)) job (book_of job) answer answered
 
   passes : JobPasses job (book_of job)
   passes = job_passes job (book_of job) screened.0
+
+  pub few : answer.count ≤ max_members
+  few = rw screened.2 (few_members (book_of job) passes.accepted)
 
   pub verdict_is :
       figures.verdict ≡ judged (criterion_of job) (book_of job) (rate job) (concentration_of job)
@@ -60,6 +68,31 @@ module _ (job : List ℕ) (answer : Answer) (answered : answer_of job ≡ Ok ans
   pub concentration_is : figures.concentration ≡ concentration_of job
   unfolding figures_at
   concentration_is = ap (λ f. f.concentration) screened.1
+
+  working_is :
+      figures.working
+      ≡ working_levels
+      (alpha_at (book_of job) (coefficient (book_of job)) (rate job))
+      (alpha_at_rest (book_of job) (coefficient (book_of job)))
+      (concentration_of job)
+      (working_level_divisor (book_of job))
+  unfolding figures_at
+  working_is = ap (λ f. f.working) screened.1
+
+  pub levels : LevelsPromise job figures.working
+  levels =
+      let book = book_of job in
+      let at_rate = alpha_at book (coefficient book) (rate job) in
+      let at_rest = alpha_at_rest book (coefficient book) in
+      let divisor = working_level_divisor book in
+      rw working_is
+      (record {
+        none = none_there at_rate (concentration_of job) divisor;
+        some = λ pos.
+            some_there at_rate at_rest (concentration_of job) divisor pos
+            (equilibrium_at_most_one book (coefficient book) (rate job) passes.accepted passes.fields.rate)
+            passes.reading.within;
+      })
 
   -- The verdict and the level are those of every assessment that comes out as the job's.
   pub as_judged :

@@ -22,7 +22,7 @@ use Rattle.verdict.proofs.Level.{level_promise}
 use Rattle.verdict.proofs.CommonFactor.{common_factor}
 use Rattle.verdict.proofs.Promised.{assessment_promises}
 use Rattle.screening.proofs.JobChecks.{reading_checked}
-use Rattle.screening.proofs.Answers.{answer_promise, no_worse_answer}
+use Rattle.screening.proofs.Answers.{answer_promise, levels, no_worse_answer}
 use Rattle.screening.proofs.Restated.{whole_hours}
 use Rattle.screening.proofs.UnroundedShares.{unrounded_shares}
 
@@ -38,6 +38,7 @@ demand_3 =
           no_worse_answer job other same figures others rises answered other-answered;
       level = level_promise;
       equilibrium_at_most_one = λ book coefficient v accepted within some. equilibrium_at_most_one book coefficient v accepted within;
+      levels = levels;
       at_rest = at_rest;
     }
 

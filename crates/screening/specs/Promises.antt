@@ -1,7 +1,7 @@
 -- What is promised: demand 3, whole, for every rate from 0 to 100,000, every chain that the checks accept, and every
 -- job over it; and what the answers of the reading say.
 use Rattle.refusals.specs.declared.Refusal.{Refusal}
-use Rattle.std.specs.Prelude.{ℕ, ◌*◌, ◌-◌, ◌≤◌, ◌<◌, ◌≡◌, List, [], ◌∷◌, ltb, get_or, drop, Result, Ok}
+use Rattle.std.specs.Prelude.{ℕ, ◌*◌, ◌-◌, ◌≤◌, ◌<◌, ◌≡◌, List, [], ◌∷◌, ltb, get_or, drop, Option, Result, Ok}
 use Rattle.refusals.specs.Grounds.{ground_of, first_met}
 use Rattle.refusals.specs.declared.Refusal.TheVariants.{ReadingUnusable, ConcentrationTooHigh}
 use Rattle.book.specs.Fields.{members, scale_of, coefficient}
@@ -18,7 +18,7 @@ use Rattle.exposure.specs.Promises.{ExposurePromises}
 use Rattle.verdict.specs.Verdict.{Assessment, verdict_at, verdict_order}
 use Rattle.verdict.specs.Promises.{LevelPromise, AssessmentPromises}
 use Rattle.verdict.specs.Promises as any
-use Rattle.verdict.specs.WorkingLevels.{equilibrium}
+use Rattle.verdict.specs.WorkingLevels.{equilibrium, no_figure, equilibrium_number, micro_number}
 use Rattle.screening.specs.Screening.{criterion_of, assessment_at, alpha_at, alpha_at_rest, answer_of}
 use Rattle.verdict.specs.CommonFactor.{CommonFactor, Unchanged}
 use Rattle.screening.specs.WholeHours.{WholeHoursPromise}
@@ -26,6 +26,7 @@ use Rattle.screening.specs.UnroundedShares.{UnroundedPromise}
 use Rattle.screening.specs.declared.job.Answer.{Answer}
 use Rattle.verdict.specs.declared.verdict.Criterion.{Criterion}
 use Rattle.verdict.specs.declared.verdict.Verdict.{Verdict}
+use Rattle.verdict.specs.declared.working.WorkingLevels.{WorkingLevels}
 
 -- The exact factor of member i, as a numerator over the denominator of the last member.
 abbrev pub exact_denominator : List ℕ → ℕ → ℕ
@@ -46,6 +47,16 @@ abbrev pub AnswerPromise : List ℕ → Result Answer Refusal → Type 0
 AnswerPromise job result =
     (answer : Answer) → result ≡ Ok answer →
     VerdictPromise (criterion_of job) (book_of job) (coefficient (book_of job)) (rate job) answer.figures.concentration answer.figures.verdict
+
+-- What the working levels of an answer say, by their numbers: they are none's where Fm's divisor is 0, and nowhere else; Fm is at
+-- most 1,000,000.
+pub record LevelsPromise (job : List ℕ) (working : Option WorkingLevels) : Type 0 where
+  pub none :
+      alpha_at_rest (book_of job) (coefficient (book_of job)) ≡ 0 →
+      (equilibrium_number working ≡ no_figure) × (micro_number working ≡ no_figure)
+  pub some :
+      0 < alpha_at_rest (book_of job) (coefficient (book_of job)) →
+      (equilibrium_number working ≤ 1000000) × (micro_number working < no_figure)
 
 pub record Demand3 : Type 0 where
   pub factors : FactorPromises
@@ -71,6 +82,7 @@ pub record Demand3 : Type 0 where
   pub equilibrium_at_most_one :
       (book : List ℕ) (coefficient : ℕ → ℕ → ℕ) (v : ℕ) → Accepted book → v ≤ max_rate → 0 < alpha_at_rest book coefficient →
       equilibrium (alpha_at book coefficient v) (alpha_at_rest book coefficient) ≤ 1000000
+  pub levels : (job : List ℕ) (answer : Answer) → answer_of job ≡ Ok answer → LevelsPromise job answer.figures.working
   -- and its divisor is the sum at rate 0
   pub at_rest : (book : List ℕ) (coefficient : ℕ → ℕ → ℕ) → alpha_at book coefficient 0 ≡ alpha_at_rest book coefficient
 
@@ -87,7 +99,7 @@ pub record Promises : Type 0 where
   -- so does yearly dose, where no share is rounded (R-2)
   pub unrounded_shares : UnroundedPromise
   -- a number is the smallest that is not below the exact value
-  pub reading : (amount : Amount) → ReadingPromise amount
+  pub reading : (amount : Amount) → ReadingPromise amount (whole_answer amount)
   -- and the grounds are those of the list, 7 and 8, of one amount and of a job's reading
   pub grounds_of_amount :
       (amount : Amount) →

@@ -9,6 +9,7 @@ pub mod Level
 pub mod CommonFactor
 pub mod Proportion
 pub mod Restated
+pub mod LevelNumbers
 -- The sums in limbs.
 pub mod ExactLimbs
 pub mod Summing

@@ -1,5 +1,5 @@
 -- The equilibrium factor and the working levels (document 01, "Working levels").
-use Rattle.std.specs.Prelude.{ℕ, suc, ◌*◌, ◌-◌, ◌/◌, cond, eqb, Option, None, Some}
+use Rattle.std.specs.Prelude.{ℕ, suc, ◌*◌, ◌-◌, ◌/◌, ◌^◌, cond, eqb, Option, None, Some}
 use Rattle.numbers.specs.Sums.{sum_below}
 use Rattle.verdict.specs.declared.working.WorkingLevels.{WorkingLevels}
 
@@ -27,3 +27,15 @@ working_levels at_rate at_zero C W =
       equilibrium = equilibrium at_rate at_zero;
       micro = micro_levels C (equilibrium at_rate at_zero) W;
     }))
+
+-- The numbers of both, as a caller in another language gets them: where there is none, the largest of 64 bits.
+abbrev pub no_figure : ℕ
+no_figure = 2 ^ 64 - 1
+
+abbrev pub equilibrium_number : Option WorkingLevels → ℕ
+equilibrium_number None = no_figure
+equilibrium_number (Some levels) = levels.equilibrium
+
+abbrev pub micro_number : Option WorkingLevels → ℕ
+micro_number None = no_figure
+micro_number (Some levels) = levels.micro
