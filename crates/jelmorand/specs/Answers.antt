@@ -1,7 +1,13 @@
 -- The number that a caller in another language gets: that of the call's own answer, the answer itself where it is not negative, and
 -- minus the number of the refusal otherwise.
 use Rattle.refusals.specs.Grounds.{answer_number}
-use Rattle.std.specs.Prelude.{ℕ, List, ℤ, pos, unwrap_or}
+use Rattle.std.specs.Prelude.{ℕ, ◌+◌, ◌*◌, ◌≡◌, List, ℤ, pos}
+use Rattle.std.specs.Option.{ok_or}
+use Rattle.refusals.specs.declared.Refusal.TheVariants.{BufferTooShort}
+use Rattle.screening.specs.Screening.{answer_of}
+use Rattle.figures.specs.Numbers.{lent, count_answered}
+use Rattle.figures.specs.Promises.{NumbersTold}
+use Rattle.figures.specs.declared.FigureNumbers.{FigureNumbers}
 use Rattle.balance.specs.Factors.{factor_answer}
 use Rattle.minutes.specs.Periods.{periods_answer}
 use Rattle.text.specs.Answered.{length_written}
@@ -14,9 +20,17 @@ abbrev pub factors_number : ℕ → List ℕ → ℕ → ℤ
 factors_number v book capacity = answer_number (factor_answer v book capacity)
 
 -- What the report call answers for a job and so many places: the length of the report, which is one line where the job is
--- refused, or 0 where there is no room for it.
+-- refused. It is refused with 21 where the report is longer than the buffer.
 abbrev pub report_number : List ℕ → ℕ → ℤ
-report_number job capacity = pos (unwrap_or (length_written (report_of job) capacity) 0)
+report_number job capacity = answer_number (ok_or (length_written (report_of job) capacity) BufferTooShort)
+
+-- What the call for figures answers for a job and so many places for factors.
+abbrev pub screen_number : List ℕ → ℕ → ℤ
+screen_number job places = answer_number (count_answered (lent (answer_of job) places))
+
+-- What the call's number says of the figures: where it is a count, their numbers keep their promise.
+abbrev pub ScreenPromise : List ℕ → ℤ → FigureNumbers → Type 0
+ScreenPromise job answer figures = (n : ℕ) → answer ≡ pos n → NumbersTold job figures
 
 -- What the table call answers for a list of rates, a book and so many places.
 abbrev pub table_number : List ℕ → List ℕ → ℕ → ℤ
@@ -29,3 +43,7 @@ periods_number periods book capacity = answer_number (periods_answer periods boo
 -- What the call for the lowest rate answers for a job.
 abbrev pub lowest_rate_number : List ℕ → ℤ
 lowest_rate_number job = lowest_number (lowest_of job)
+
+-- What the version call answers: version 0.7.0.
+abbrev pub version : ℕ
+version = 1000000 * 0 + 1000 * 7 + 0

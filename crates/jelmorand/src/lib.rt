@@ -2,16 +2,19 @@
 // number: the answer itself where it is not negative, and minus the number of the refusal otherwise.
 #![tactic(auto)]
 
-ghost use Rattle.std.specs.Prelude.{◌≡◌, ◌<◌, ◌^◌, IfOk, length};
+ghost use Rattle.std.specs.Prelude.{◌≡◌, ◌<◌, ◌^◌, IfOk, length, pos};
 ghost use Rattle.balance.specs.Factors.{factor_list};
 ghost use Rattle.minutes.specs.Periods.{periods_list};
 ghost use Rattle.report.specs.Report.{report_of};
+ghost use Rattle.screening.specs.Screening.{answer_of};
+ghost use Rattle.figures.specs.Numbers.{lent, figures_left, factors_left};
 ghost use Rattle.text.specs.Answered.{bytes_written};
 ghost use Rattle.tables.specs.Answers.{table_buffer};
 ghost use Rattle.refusals.specs.Grounds.{refused_number, answer_number};
-ghost use Rattle.jelmorand.specs.Answers.{factors_number, report_number};
+ghost use Rattle.jelmorand.specs.Answers.{factors_number, report_number, screen_number, ScreenPromise, version};
 ghost use Rattle.jelmorand.specs.Answers.{table_number, periods_number, lowest_rate_number};
 
+use figures::{FigureNumbers, screen_numbers};
 use minutes::factors_after;
 use refusals::Refusal;
 use report::report_job;
@@ -20,6 +23,17 @@ use ventilation::lowest_rate;
 
 // What the lowest rate is answered as where there is none: one more than the highest rate.
 const NO_RATE: i64 = 100_001;
+
+// 1,000,000 times the first part of the version, 1,000 times the second and the third.
+const VERSION: i64 = 7_000;
+
+// The version of these calls: one that has every call of a header has at least the header's.
+#[unsafe(no_mangle)]
+pub extern "C" fn jelmorand_version() -> i64
+    ensures { result ≡ pos version }
+{
+    VERSION
+}
 
 // A refusal as every call answers it: minus its number.
 fn refused(refusal: Refusal) -> i64
@@ -49,14 +63,30 @@ pub extern "C" fn jelmorand_factors(v: u32, book: &[u8], out: &mut [u64]) -> i64
     number_of(balance::factors(v, book, out))
 }
 
-// The report of a job, to the start of `out`, and its length; where there is no room for all of it 0, with `out` as it
-// was.
+// The report of a job, to the start of `out`, and its length; where there is no room for all of it that is refused, with
+// `out` as it was. A job that is refused has a report.
 #[unsafe(no_mangle)]
 pub extern "C" fn jelmorand_report(job: &[u8], out: &mut [u8]) -> i64
     ensures answered { result ≡ report_number job.now (length out.old) }
     ensures written { out.new ≡ bytes_written (report_of job.now) out.old }
 {
-    report_job(job, out).unwrap_or(0) as i64
+    number_of(report_job(job, out).ok_or(Refusal::BufferTooShort))
+}
+
+// The figures of a job, a number each, and the members' factors in the first places of `factors`: how many these are. A
+// refusal leaves both as they were.
+#[unsafe(no_mangle)]
+pub extern "C" fn jelmorand_screen(
+    job: &[u8],
+    figures: &mut FigureNumbers,
+    factors: &mut [u64],
+) -> i64
+    ensures answered { result ≡ screen_number job.now (length factors.old) }
+    ensures figures { figures.new ≡ figures_left (lent (answer_of job.now) (length factors.old)) figures.old }
+    ensures factors { factors.new ≡ factors_left (lent (answer_of job.now) (length factors.old)) factors.old }
+    ensures sound { ScreenPromise job.now result figures.new }
+{
+    number_of(screen_numbers(job, figures, factors))
 }
 
 // The table of a book at every rate of a list, to the start of `out`, and its length; a refusal leaves `out` as it was.

@@ -11,7 +11,7 @@ use Rattle.report.specs.RateLine.{rate_line, rate_line_room}
 use Rattle.report.specs.Reports.{Reports}
 
 pub record ReportPromises : Type 0 where
-  -- a report is never empty, so that 0 says only that it did not fit; and it always fits what a program has for it
+  -- a report is never empty, and it always fits what a program has for it
   pub some_report : (job : List ℕ) → 0 < length (report_of job)
   pub report_fits : (job : List ℕ) → length (report_of job) ≤ report_room
   pub line_fits : (job : List ℕ) → length (rate_line job) ≤ rate_line_room

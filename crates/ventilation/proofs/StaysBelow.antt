@@ -30,12 +30,12 @@ use Rattle.screening.proofs.HeldNumbers.{in_array, by_rows}
 use Rattle.ventilation.specs.Lowest.{says_below, first_rate, lowest_for, lowest_of}
 use Rattle.ventilation.specs.Private.BelowAt.{below_at}
 
-best : (verdict : Verdict) → says_below verdict ≡ true → verdict_order verdict ≤ 0
+best : (verdict : Verdict) → says_below verdict ≡ true → verdict_order verdict ≤ 1
 best Below e = omega arith
 best Close e = absurd (let z : ◌≡◌ {A = ℕ} 0 1 = cc in omega arith)
 best Above e = absurd (let z : ◌≡◌ {A = ℕ} 0 1 = cc in omega arith)
 
-only_best : (verdict : Verdict) → verdict_order verdict ≤ 0 → says_below verdict ≡ true
+only_best : (verdict : Verdict) → verdict_order verdict ≤ 1 → says_below verdict ≡ true
 only_best Below l = refl
 only_best Close l = absurd (omega arith)
 only_best Above l = absurd (omega arith)

@@ -35,7 +35,9 @@ below_if L H B h = rw (le-leb H B h)
 no_worse_of :
     (L L' H H' B : ℕ) → L' ≤ L → H' ≤ H → (v v' : Verdict) → Says L H B v → Says L' H' B v' →
     verdict_order v' ≤ verdict_order v
-no_worse_of L L' H H' B l h v Below s s' = omega arith
+no_worse_of L L' H H' B l h Below Below s s' = omega arith
+no_worse_of L L' H H' B l h Close Below s s' = omega arith
+no_worse_of L L' H H' B l h Above Below s s' = omega arith
 no_worse_of L L' H H' B l h Below Close s s' = omega arith
 no_worse_of L L' H H' B l h Close Close s s' = omega arith
 no_worse_of L L' H H' B l h Above Close s s' = omega arith

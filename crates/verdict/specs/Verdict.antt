@@ -68,11 +68,11 @@ verdict_of L H B = cond (leb H B) Below (cond (leb L B) Close Above)
 abbrev pub verdict_at : Assessment → ℕ → Verdict
 verdict_at a C = verdict_of (low a C) (high a C) a.bound
 
--- From best to worst.
+-- From best to worst, from 1 on: a place of zeros that nobody wrote is no verdict, and so never 'below'.
 abbrev pub verdict_order : Verdict → ℕ
-verdict_order Below = 0
-verdict_order Close = 1
-verdict_order Above = 2
+verdict_order Below = 1
+verdict_order Close = 2
+verdict_order Above = 3
 
 -- The largest q from 0 to cap with q × b ≤ a.
 abbrev pub capped_quotient : ℕ → ℕ → ℕ → ℕ

@@ -2,6 +2,7 @@
 // factors, wherever these come from.
 #![tactic(auto)]
 
+mod order;
 mod verdict;
 mod weighted;
 mod working;

@@ -1,0 +1,3 @@
+-- The laws behind the contracts.
+pub mod TooShort
+pub mod Counted
