@@ -10,7 +10,7 @@ use balance::GRAINS;
 use book::Coefficients;
 use wide::Wide;
 
-const DAYS_PER_YEAR: u32 = 365;
+const DAYS_PER_YEAR: u64 = 365;
 
 // A factor with an allowance for its rounding, capped at the parent's.
 fn raised(factor: u64, allowance: u64) -> u64
@@ -26,12 +26,10 @@ fn weighted(factor: u64, inhalation: u32, submersion: u32, x: u32, y: u32) -> Wi
     ensures exact { result ≡ (365 * x * inhalation + y * submersion) * factor }
     ensures small { result ≤ 2 ^ 113 }
 {
-    let factor = Wide::from(factor);
-    let breathed = factor
+    let breathed = Wide::from(factor * DAYS_PER_YEAR)
         .wrapping_mul(inhalation)
-        .wrapping_mul(x)
-        .wrapping_mul(DAYS_PER_YEAR);
-    let immersed = factor.wrapping_mul(submersion).wrapping_mul(y);
+        .wrapping_mul(x);
+    let immersed = Wide::from(factor).wrapping_mul(submersion).wrapping_mul(y);
     breathed.wrapping_add(immersed)
 }
 
