@@ -1,2 +1,3 @@
--- What a word of digits means.
+-- What a word of digits means, and what is a text.
 pub mod Digits
+pub mod Texts

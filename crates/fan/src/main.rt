@@ -3,7 +3,7 @@
 #![tactic(auto)]
 
 use anyhow::{Context, Result};
-use arguments::{ended, read_input};
+use arguments::{ended, help_given, read_input, remark_text};
 use report::{RATE_LINE_ROOM, rate_line};
 use screening::LONGEST_JOB;
 use std::io::Write;
@@ -12,6 +12,8 @@ use std::process::ExitCode;
 // One byte more than the longest job that can be accepted: a longer input has the same line as its first bytes.
 const ENOUGH: usize = LONGEST_JOB + 1;
 
+const USAGE: &str = "fan FILE, or fan < FILE";
+
 fn main(rt: HostRuntime) -> ExitCode {
     let answered = answer(&rt);
     ended(&rt, answered)
@@ -19,7 +21,11 @@ fn main(rt: HostRuntime) -> ExitCode {
 
 // Not one function with `screen`: the check proves no bound `FnOnce` that names a const parameter, as the room is.
 fn answer(rt: &HostRuntime) -> Result<()> {
-    let job = read_input(rt, "fan FILE, or fan < FILE", ENOUGH)?;
+    if help_given(rt, USAGE)? {
+        return Ok(());
+    }
+    let job = read_input(rt, USAGE, ENOUGH)?;
+    remark_text(rt, "fan", &job);
     let mut buffer = [0u8; RATE_LINE_ROOM];
     let n = rate_line(&job, &mut buffer);
     rt.stdout()

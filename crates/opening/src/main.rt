@@ -1,14 +1,14 @@
-// Writes the factors of the chain book in a file at the end of periods of airing, or a line every so many minutes of
-// one period.
+// Writes the factors of the chain book in a file at the end of periods of airing, or a line every so many minutes of them.
 #![tactic(auto)]
 
+mod every;
 mod lines;
 
 use anyhow::{Context, Result, bail};
-use arguments::{ended, read_file, read_number, read_numbers};
-use book::{LONGEST_BOOK, MAX_MEMBERS};
-use lines::{write_factors, write_line};
-use minutes::factors_after;
+use arguments::{ended, help_given, read_file, read_number, read_numbers, remark_text};
+use book::LONGEST_BOOK;
+use every::write_every;
+use lines::{write_after, write_factors};
 use std::process::ExitCode;
 
 // One byte more than the longest book that can be accepted: a longer one is refused by its counts or its length, as its
@@ -18,8 +18,7 @@ const ENOUGH: usize = LONGEST_BOOK + 1;
 // More than the library takes, so that it is the library that refuses a list that is too long.
 const MOST_NUMBERS: usize = 1000;
 
-const USAGE: &str =
-    "usage: opening BOOKFILE RATE MINUTES [RATE MINUTES ...], or opening BOOKFILE RATE MINUTES every N";
+const USAGE: &str = "opening BOOKFILE RATE MINUTES [RATE MINUTES ...] [every N]";
 
 const WANTED: &str = "a rate is whole hundredths per hour, so 18 for 0.18, and minutes are whole";
 
@@ -31,64 +30,39 @@ fn main(rt: HostRuntime) -> ExitCode {
 }
 
 fn answer(rt: &HostRuntime) -> Result<()> {
+    if help_given(rt, USAGE)? {
+        return Ok(());
+    }
     let words: Vec<String> = std::env::args(rt)?.collect(rt.alloc())?;
     match words.as_slice() {
-        [_, path, rate, minutes, word, every] if word.as_str() == "every" => {
-            let book = read_file(rt, path.as_str(), ENOUGH)?;
-            let rate = read_number(rate.as_str(), WANTED).context("opening")?;
-            let minutes = read_number(minutes.as_str(), WANTED).context("opening")?;
+        [_, path, given @ .., word, every] if word.as_str() == "every" => {
+            let book = book_in(rt, path)?;
+            let periods = periods_of(rt, given)?;
             let every = read_number(every.as_str(), WANTED_EVERY).context("opening")?;
-            write_every(rt, rate, minutes, every, &book)
+            write_every(rt, &periods, every, &book)
         }
-        [_, _, _, _, word, ..] if word.as_str() == "every" => bail!("{USAGE}"),
-        [_, path, given @ ..] if 2 <= given.len() => {
-            let book = read_file(rt, path.as_str(), ENOUGH)?;
-            if MOST_NUMBERS < given.len() {
-                bail!("opening: more than 1,000 numbers");
-            }
-            let periods = read_numbers(rt, given, WANTED).context("opening")?;
+        [_, path, given @ ..] if !given.is_empty() => {
+            let book = book_in(rt, path)?;
+            let periods = periods_of(rt, given)?;
             write_after(rt, &periods, &book, |factors| write_factors(rt, factors))
         }
-        _ => bail!("{USAGE}"),
+        _ => bail!("usage: {USAGE}"),
     }
 }
 
-// What is written of the factors after the periods, or that the call refuses them.
-fn write_after<F: FnOnce(&[u64]) -> Result<()>>(
-    rt: &HostRuntime,
-    periods: &[u32],
-    book: &[u8],
-    write: F,
-) -> Result<()>
-    requires { F.IsAlwaysCallable write }
-{
-    let mut factors = [0u64; MAX_MEMBERS];
-    match factors_after(periods, book, &mut factors) {
-        Ok(count) => {
-            write(&factors[..count]).context("opening: the factors could not be written")
-        }
-        Err(refusal) => Ok(rt.println(refusal)?),
-    }
+fn book_in(rt: &HostRuntime, path: &String) -> Result<Vec<u8>> {
+    let book = read_file(rt, path.as_str(), ENOUGH)?;
+    remark_text(rt, "opening", &book);
+    Ok(book)
 }
 
-// The whole period is tried first. Where it is refused, that is all that is written; where it is not, no part of it is
-// refused.
-fn write_every(rt: &HostRuntime, rate: u32, minutes: u32, every: u32, book: &[u8]) -> Result<()> {
-    if every == 0 {
-        bail!("opening: every 0: N is 1 or more");
+// `every` stands last but one, or nowhere.
+fn periods_of(rt: &HostRuntime, given: &[String]) -> Result<Vec<u32>> {
+    if given.iter().any(|word| word.as_str() == "every") {
+        bail!("usage: {USAGE}");
     }
-    let mut factors = [0u64; MAX_MEMBERS];
-    if let Err(refusal) = factors_after(&[rate, minutes], book, &mut factors) {
-        return Ok(rt.println(refusal)?);
+    if MOST_NUMBERS < given.len() {
+        bail!("opening: more than 1,000 numbers");
     }
-    // A usize has no `From<u32>`; the cast cuts nothing.
-    for minute in (every..=minutes).step_by(every as usize) {
-        write_after(
-            rt,
-            &[rate, minute],
-            book,
-            |factors| write_line(rt, minute, factors),
-        )?;
-    }
-    Ok(())
+    read_numbers(rt, given, WANTED).context("opening")
 }

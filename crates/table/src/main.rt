@@ -3,7 +3,7 @@
 #![tactic(auto)]
 
 use anyhow::{Context, Result, bail};
-use arguments::{ended, read_file, read_numbers};
+use arguments::{ended, help_given, read_file, read_numbers, remark_text};
 use book::LONGEST_BOOK;
 use std::io::Write;
 use std::process::ExitCode;
@@ -15,6 +15,8 @@ const ENOUGH: usize = LONGEST_BOOK + 1;
 // More than a table has, so that it is the library that refuses a list that is too long.
 const MOST_RATES: usize = 1000;
 
+const USAGE: &str = "table BOOKFILE [RATE ...]";
+
 const WANTED: &str = "a rate is whole hundredths per hour, so 18 for 0.18";
 
 fn main(rt: HostRuntime) -> ExitCode {
@@ -23,12 +25,16 @@ fn main(rt: HostRuntime) -> ExitCode {
 }
 
 fn answer(rt: &HostRuntime) -> Result<()> {
+    if help_given(rt, USAGE)? {
+        return Ok(());
+    }
     let mut words = std::env::args(rt)?;
     let _program = words.next();
     let Some(path) = words.next() else {
-        bail!("usage: table BOOKFILE [RATE ...]");
+        bail!("usage: {USAGE}");
     };
     let book = read_file(rt, path.as_str(), ENOUGH)?;
+    remark_text(rt, "table", &book);
     let given: Vec<String> = words.collect(rt.alloc())?;
     if given.is_empty() {
         return write_table(rt, &SOURCE_RATES, &book);
