@@ -17,12 +17,12 @@ use Rattle.balance.specs.Chain.{chain_of}
 use Rattle.balance.specs.Balance.{G}
 use Rattle.balance.specs.Factors.{factor_grounds, factor_at, factors_at, factor_answer, factor_list}
 use Rattle.balance.specs.Promises.{FactorPromise, FallPromise, ListPromise, FactorPromises}
-use Rattle.balance.proofs.AcceptedSound.{accepted_sound}
-use Rattle.balance.proofs.Reported.{reported_at}
-use Rattle.balance.proofs.SoundFactors.{factor_promise, fall_promise, reported_at_most_g}
+use Rattle.balance.proofs.FromBook.AcceptedSound.{accepted_sound}
+use Rattle.balance.proofs.AnyChain.Reported.{reported_at}
+use Rattle.balance.proofs.AnyChain.SoundFactors.{factor_promise, fall_promise, reported_at_most_g}
 use Rattle.balance.specs.Private.Fillable.{CallPasses}
-use Rattle.balance.proofs.CallPasses.{call_passes, passing_call}
-use Rattle.balance.proofs.CallAnswers.{filled_answer, filled_list, filled_passed, place_holds, factors_length}
+use Rattle.balance.proofs.Call.CallPasses.{call_passes, passing_call}
+use Rattle.balance.proofs.Call.CallAnswers.{filled_answer, filled_list, filled_passed, place_holds, factors_length}
 
 module _ (v : ℕ) (book list : List ℕ) {n : ℕ} (answered : answer_number (factor_answer v book (length list)) ≡ pos n) where
   abbrev found : Checked

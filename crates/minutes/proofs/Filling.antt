@@ -12,18 +12,18 @@ use Rattle.book.specs.Held.{filled}
 use Rattle.book.proofs.Filled.{Filled, filled_ahead}
 use Rattle.book.specs.Rates.{rates_at}
 use Rattle.book.proofs.Rates.{scale_positive, scale_within, rate_is, rates_rise}
-use Rattle.balance.proofs.FilledFactors.{word_holds}
+use Rattle.balance.proofs.Filling.FilledFactors.{word_holds}
 use Rattle.balance.specs.Chain.{Chain, chain_of}
 use Rattle.balance.specs.Sound.{Sound}
 use Rattle.balance.specs.Balance.{G, K, inflow}
 use Rattle.balance.specs.Inflow.{Fed}
-use Rattle.balance.proofs.AcceptedSound.{accepted_sound}
-use Rattle.balance.proofs.Bounds.{exact_inflow}
-use Rattle.balance.proofs.Equations.{ExactFactors}
-use Rattle.balance.proofs.FilledInOrder.{inflow_filled, next_filled, parent_filled, filled_in_order}
-use Rattle.balance.proofs.Inflow.{inflow_of, inflow_order}
-use Rattle.balance.proofs.MemberOrder.{made_inflow}
-use Rattle.balance.proofs.Numerators.{denominator_pos}
+use Rattle.balance.proofs.FromBook.AcceptedSound.{accepted_sound}
+use Rattle.balance.proofs.AnyChain.Bounds.{exact_inflow}
+use Rattle.balance.proofs.AnyChain.Equations.{ExactFactors}
+use Rattle.balance.proofs.Filling.FilledInOrder.{inflow_filled, next_filled, parent_filled, filled_in_order}
+use Rattle.balance.proofs.AnyChain.Inflow.{inflow_of, inflow_order}
+use Rattle.balance.proofs.AnyChain.MemberOrder.{made_inflow}
+use Rattle.balance.proofs.AnyChain.Numerators.{denominator_pos}
 use Rattle.minutes.specs.Minutes.{once_a_minute, minute}
 use Rattle.minutes.specs.Private.Holding.{Holds, minute_at}
 use Rattle.minutes.proofs.MinuteEquations.{aged_stays_below}

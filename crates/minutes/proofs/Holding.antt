@@ -17,8 +17,8 @@ use Rattle.book.specs.Rates.{rates_at}
 use Rattle.balance.specs.Chain.{chain_of}
 use Rattle.balance.specs.Balance.{G}
 use Rattle.balance.specs.Exact.{numerators, denominator}
-use Rattle.balance.proofs.AcceptedSound.{accepted_sound}
-use Rattle.balance.proofs.Equations.{ExactFactors, exact_solves}
+use Rattle.balance.proofs.FromBook.AcceptedSound.{accepted_sound}
+use Rattle.balance.proofs.AnyChain.Equations.{ExactFactors, exact_solves}
 use Rattle.minutes.specs.Minutes.{start, minutes, rate_of, minutes_of, after_periods}
 use Rattle.minutes.specs.Private.Holding.{BelowUnaired, Holds, minute_at, minutes_at, periods_at}
 use Rattle.minutes.proofs.Minute.{minute_front}

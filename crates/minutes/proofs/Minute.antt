@@ -6,7 +6,7 @@ use mathlib.Core.List.{List, ◌++◌}
 use lib.ListN.{length, get_or, get_or-append}
 use Rattle.balance.specs.Chain.{Chain}
 use Rattle.balance.specs.Sound.{Sound}
-use Rattle.balance.proofs.MemberOrder.{made, made_length, made_at, made_parent, made_later, made_alike}
+use Rattle.balance.proofs.AnyChain.MemberOrder.{made, made_length, made_at, made_parent, made_later, made_alike}
 use Rattle.minutes.specs.Minutes.{new_factor, minute}
 use Rattle.minutes.proofs.MinuteEquations.{Aged}
 

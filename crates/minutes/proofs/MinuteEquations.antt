@@ -7,9 +7,9 @@ use mathlib.Core.Path.{◌≡◌, ap}
 use Rattle.balance.specs.Chain.{Chain}
 use Rattle.balance.specs.Sound.{Sound}
 use Rattle.balance.specs.Balance.{G, K}
-use Rattle.balance.proofs.Inflow.{inflow_of, inflow_order}
-use Rattle.balance.proofs.Equations.{ExactFactors}
-use Rattle.balance.proofs.AlongChain.{along_chain}
+use Rattle.balance.proofs.AnyChain.Inflow.{inflow_of, inflow_order}
+use Rattle.balance.proofs.AnyChain.Equations.{ExactFactors}
+use Rattle.balance.proofs.AnyChain.AlongChain.{along_chain}
 use Rattle.minutes.specs.Minutes.{new_factor}
 use Rattle.minutes.proofs.Stepping.{step_rises, step_below}
 

@@ -8,7 +8,7 @@ use Rattle.numbers.specs.Sums.{sum_below}
 use Rattle.balance.specs.Chain.{Chain}
 use Rattle.balance.specs.Sound.{Sound}
 use Rattle.balance.specs.Balance.{G}
-use Rattle.balance.proofs.Equations.{ExactFactors}
+use Rattle.balance.proofs.AnyChain.Equations.{ExactFactors}
 use Rattle.minutes.specs.Minutes.{start, minutes, rate_of, minutes_of, after_periods}
 use Rattle.minutes.proofs.Repeated.{start_below, minutes_below, minutes_added, minutes_length}
 

@@ -16,12 +16,12 @@ use Rattle.balance.specs.Chain.{chain_of}
 use Rattle.balance.specs.Balance.{G}
 use Rattle.balance.specs.Exact.{numerators, denominator}
 use Rattle.balance.specs.Promises.{FactorPromise}
-use Rattle.balance.proofs.AcceptedSound.{accepted_sound}
-use Rattle.balance.proofs.CallAnswers.{filled_passed, place_holds}
-use Rattle.balance.proofs.Equations.{ExactFactors, exact_solves}
-use Rattle.balance.proofs.Numerators.{denominator_pos}
+use Rattle.balance.proofs.FromBook.AcceptedSound.{accepted_sound}
+use Rattle.balance.proofs.Call.CallAnswers.{filled_passed, place_holds}
+use Rattle.balance.proofs.AnyChain.Equations.{ExactFactors, exact_solves}
+use Rattle.balance.proofs.AnyChain.Numerators.{denominator_pos}
 use Rattle.std.specs.Prelude.{pos, Result, Ok}
-use Rattle.balance.proofs.SoundFactors.{factor_promise}
+use Rattle.balance.proofs.AnyChain.SoundFactors.{factor_promise}
 use Rattle.minutes.specs.Minutes.{start, minutes, rate_of}
 use Rattle.minutes.specs.Periods.{period_count, periods_grounds, factors_after, periods_answer, periods_list}
 use Rattle.minutes.specs.Promises.{NotAboveSteady, MinutePromise, PeriodsPromise, AtOneRate, all_minutes, PeriodsPromises}

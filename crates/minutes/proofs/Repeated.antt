@@ -11,8 +11,8 @@ use Rattle.balance.specs.Chain.{Chain}
 use Rattle.balance.specs.Sound.{Sound}
 use Rattle.balance.specs.Balance.{G}
 use Rattle.balance.specs.Exact.{numerators, denominator}
-use Rattle.balance.proofs.Equations.{ExactFactors, exact_solves}
-use Rattle.balance.proofs.MemberOrder.{made_parent}
+use Rattle.balance.proofs.AnyChain.Equations.{ExactFactors, exact_solves}
+use Rattle.balance.proofs.AnyChain.MemberOrder.{made_parent}
 use Rattle.minutes.specs.Minutes.{minute, start, minutes}
 use Rattle.minutes.specs.Promises.{MinutePromise}
 use Rattle.minutes.proofs.MinuteEquations.{aged_rises, aged_stays_below}

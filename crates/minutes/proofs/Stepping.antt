@@ -6,7 +6,7 @@ use native.Mathlib.Nat.{mul-le-mul_left, mul-le-mul_right, le_of_mul-le-mul_left
 use native.Mathlib.Omega.{arith}
 use mathlib.Core.Path.{◌≡◌, ap}
 use Rattle.balance.specs.Balance.{K}
-use Rattle.balance.proofs.Rounding.{quotient_mono}
+use Rattle.balance.proofs.AnyChain.Rounding.{quotient_mono}
 
 pub step_rises :
     (s A K E old more fed fed_more : ℕ) → 0 < s → 0 < E → old ≤ more → fed ≤ fed_more →

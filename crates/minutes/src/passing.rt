@@ -22,7 +22,7 @@ fn begin(out: &mut [u64], count: usize)
 
 // One minute. A member's inflow is read from places that hold this minute's factors already, and its own place still holds the old one.
 // `Holds` says again that the book is accepted, since its laws are of a list and the bytes of a book alone.
-#[tactic(auto, using(book::proofs::Rates::scale_positive, balance::proofs::Quotients::later_half_life))]
+#[tactic(auto, using(book::proofs::Rates::scale_positive, balance::proofs::Filling::Quotients::later_half_life))]
 fn pass_minute(chain: AcceptedChain<'_>, v: Rate, out: &mut [u64])
     requires { Holds chain.chain.now.bytes.now out.old }
     ensures { let book = chain.entry.chain.now.bytes.now in

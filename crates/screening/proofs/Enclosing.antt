@@ -9,7 +9,7 @@ use Rattle.balance.specs.Chain.{Chain}
 use Rattle.balance.specs.Balance.{G}
 use Rattle.balance.specs.Exact.{numerators, numerator, denominator}
 use Rattle.balance.specs.Promises.{FactorPromise}
-use Rattle.balance.proofs.Numerators.{denominator_pos}
+use Rattle.balance.proofs.AnyChain.Numerators.{denominator_pos}
 use Rattle.screening.proofs.OneDenominator.{one_denominator}
 use Rattle.verdict.specs.Promises.{Enclosed}
 

@@ -14,9 +14,9 @@ use Rattle.book.specs.Rates.{max_rate, rates_at}
 use Rattle.refusals.specs.Grounds.{written_if}
 use Rattle.balance.specs.Chain.{chain_of}
 use Rattle.balance.specs.Factors.{factor_at, factors_at, factor_list}
-use Rattle.balance.proofs.CallAnswers.{factors_length}
-use Rattle.balance.proofs.CallPasses.{passing_call}
-use Rattle.balance.proofs.Reported.{reported_at}
+use Rattle.balance.proofs.Call.CallAnswers.{factors_length}
+use Rattle.balance.proofs.Call.CallPasses.{passing_call}
+use Rattle.balance.proofs.AnyChain.Reported.{reported_at}
 use Rattle.balance.proofs.Promised.{factor_at_most_g}
 use Rattle.verdict.specs.Verdict.{weight_of, assessment_by, bound_of, verdict_at}
 use Rattle.screening.specs.Screening.{assessment_at}

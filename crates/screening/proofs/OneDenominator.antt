@@ -7,7 +7,7 @@ use mathlib.Core.Path.{◌≡◌, refl, ap}
 use lib.ListN.{get_or}
 use Rattle.balance.specs.Chain.{Chain}
 use Rattle.balance.specs.Exact.{numerators, numerator, denominator}
-use Rattle.balance.proofs.Numerators.{numerators_earlier}
+use Rattle.balance.proofs.AnyChain.Numerators.{numerators_earlier}
 
 multiplied : (x y c d n P : ℕ) → y ≡ c * x → x * d ≡ n * P → y * d ≡ n * (P * c)
 multiplied x y c d n P grown over = omega (arith, ap (λ t. t * d) grown, ap (λ t. c * t) over)

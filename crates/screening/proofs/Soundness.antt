@@ -13,7 +13,7 @@ use Rattle.verdict.specs.declared.verdict.Criterion.{Criterion}
 use Rattle.verdict.proofs.Soundness as any
 use Rattle.screening.specs.Screening.{assessment_at}
 use Rattle.screening.specs.Promises.{VerdictPromise, exact_denominator, exact_factor}
-use Rattle.balance.proofs.Numerators.{denominator_pos}
+use Rattle.balance.proofs.AnyChain.Numerators.{denominator_pos}
 use Rattle.balance.proofs.Promised.{factor_promises}
 use Rattle.screening.proofs.Enclosing.{factors_enclosed}
 

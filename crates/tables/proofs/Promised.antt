@@ -19,7 +19,7 @@ use Rattle.refusals.proofs.OtherNumber.{other_number}
 use Rattle.book.specs.BookGrounds.{Accepted}
 use Rattle.book.proofs.Ranges.{few_members}
 use Rattle.book.specs.Rates.{max_rate}
-use Rattle.balance.proofs.CallAnswers.{filled_passed}
+use Rattle.balance.proofs.Call.CallAnswers.{filled_passed}
 use Rattle.text.proofs.Digits.{decimal_below}
 use Rattle.text.proofs.Pieces.{each_at_most}
 use Rattle.tables.specs.Table.{rate_line, table_text}

@@ -13,8 +13,8 @@ use Rattle.book.proofs.Ranges.{few_members}
 use Rattle.book.specs.Rates.{rates_at}
 use Rattle.balance.specs.Chain.{chain_of}
 use Rattle.balance.specs.Factors.{factors_at}
-use Rattle.balance.proofs.Reported.{reported_at}
-use Rattle.balance.proofs.CallAnswers.{factors_length}
+use Rattle.balance.proofs.AnyChain.Reported.{reported_at}
+use Rattle.balance.proofs.Call.CallAnswers.{factors_length}
 use Rattle.balance.proofs.Promised.{factor_at_most_g}
 use Rattle.text.specs.Words.{decimal}
 use Rattle.text.proofs.Pieces.{each_as_long}

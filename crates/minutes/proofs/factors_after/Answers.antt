@@ -1,7 +1,7 @@
 -- Where the checks pass, the periods are passed in the list, and its factors are theirs.
 use Rattle.std.proofs.Common.{sym, refl, length}
 use Rattle.book.specs.Fields.{members}
-use Rattle.balance.proofs.CallAnswers.{filled_answer, filled_list}
+use Rattle.balance.proofs.Call.CallAnswers.{filled_answer, filled_list}
 use Rattle.minutes.specs.Periods.{factors_after}
 use Rattle.minutes.proofs.Checking.{periods_pass, factors_after_length}
 use Rattle.minutes.proofs.Promised.{kept}

@@ -1,7 +1,7 @@
 -- Each turn's feed is the next of those ahead, so the sum on the way is at most the whole inflow, which fits a word.
 use Rattle.std.proofs.Common.{arith}
 use Rattle.book.specs.declared.feed.Feed.{Feed}
-use Rattle.balance.proofs.AlongFeeds.{fed_inflow, turn, none_ahead}
+use Rattle.balance.proofs.Filling.AlongFeeds.{fed_inflow, turn, none_ahead}
 use Rattle.balance.proofs.feeds.inflow_of.Goals as goal
 
 abbrev no_feed : Feed

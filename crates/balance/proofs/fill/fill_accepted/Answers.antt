@@ -2,9 +2,9 @@
 use Rattle.std.proofs.Common.{length, arith}
 use Rattle.book.proofs.Ranges.{accepted_ranges}
 use Rattle.book.proofs.Rates.{scale_positive}
-use Rattle.balance.proofs.FilledFactors.{fed, member_filled, parent_placed, all_placed}
+use Rattle.balance.proofs.Filling.FilledFactors.{fed, member_filled, parent_placed, all_placed}
 use Rattle.balance.proofs.Promised.{filled_as_called, filled_keeps}
-use Rattle.balance.proofs.Quotients.{later_half_life}
+use Rattle.balance.proofs.Filling.Quotients.{later_half_life}
 use Rattle.balance.specs.Private.Fillable.{CallPasses}
 use Rattle.balance.proofs.fill.fill_accepted.Goals as goal
 

@@ -13,8 +13,8 @@ use Rattle.book.specs.Fields.{members, feed_count, first_feed, next, along, feed
 use Rattle.book.specs.Held.{feeds_in_order, held_feeds}
 use Rattle.book.specs.BookGrounds.{walk, Accepted}
 use Rattle.book.proofs.Ranges.{accepted_ranges}
-use Rattle.balance.proofs.Walk.{Listed, listed_append, along_listed, along_short}
-use Rattle.balance.proofs.OnceEach.{length_at_most}
+use Rattle.balance.proofs.FromBook.Walk.{Listed, listed_append, along_listed, along_short}
+use Rattle.balance.proofs.FromBook.OnceEach.{length_at_most}
 
 module _ (book : List ℕ) (accepted : Accepted book) where
   pub feeds_listed : (i : ℕ) → i < members book → Listed (feed_count book) (feeds_of book i)

@@ -7,11 +7,11 @@ use mathlib.Core.Path.{◌≡◌, ap}
 use Rattle.balance.specs.Chain.{Chain}
 use Rattle.balance.specs.Sound.{Sound}
 use Rattle.balance.specs.Balance.{G, K, removal}
-use Rattle.balance.proofs.Inflow.{inflow_of, inflow_le}
-use Rattle.balance.proofs.Flow.{AtMostInflow, inflow_bound, member_bound}
-use Rattle.balance.proofs.Equations.{ReportedFactors, ExactFactors}
-use Rattle.balance.proofs.Rounding.{rounded_below, rounded_little, at_most_inflow, loss_passes}
-use Rattle.balance.proofs.Order.{stays_below}
+use Rattle.balance.proofs.AnyChain.Inflow.{inflow_of, inflow_le}
+use Rattle.balance.proofs.AnyChain.Flow.{AtMostInflow, inflow_bound, member_bound}
+use Rattle.balance.proofs.AnyChain.Equations.{ReportedFactors, ExactFactors}
+use Rattle.balance.proofs.AnyChain.Rounding.{rounded_below, rounded_little, at_most_inflow, loss_passes}
+use Rattle.balance.proofs.AnyChain.Order.{stays_below}
 
 -- A loss of less than two grains for each of i members.
 losses_add :

@@ -15,7 +15,7 @@ use Rattle.book.specs.BookGrounds.{Accepted}
 use Rattle.refusals.specs.declared.Refusal.{Refusal}
 use Rattle.refusals.proofs.Numbers.{no_count}
 use Rattle.book.proofs.Ranges.{accepted_ranges}
-use Rattle.balance.proofs.Reported.{reported_length}
+use Rattle.balance.proofs.AnyChain.Reported.{reported_length}
 
 module _ {found all : Checked} (checked : found ≡ all) (n : ℕ) (factors list : List ℕ) where
   module _ {r : Refusal} (refused : found ≡ Err r) where

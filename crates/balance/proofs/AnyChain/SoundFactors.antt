@@ -10,11 +10,11 @@ use Rattle.balance.specs.Sound.{Sound}
 use Rattle.balance.specs.Balance.{G, inflow, reported, reported_factor}
 use Rattle.balance.specs.Exact.{numerators, denominator}
 use Rattle.balance.specs.Promises.{FactorPromise, FallPromise}
-use Rattle.balance.proofs.Reported.{reported_at, inflow_reported}
-use Rattle.balance.proofs.Numerators.{denominator_pos}
-use Rattle.balance.proofs.Equations.{reported_solves, exact_solves}
-use Rattle.balance.proofs.Bounds.{reported_at_most, reported_inflow, exact_at_most, below_exact, less_than_2i}
-use Rattle.balance.proofs.Monotone.{reported_falls_along, exact_falls_along}
+use Rattle.balance.proofs.AnyChain.Reported.{reported_at, inflow_reported}
+use Rattle.balance.proofs.AnyChain.Numerators.{denominator_pos}
+use Rattle.balance.proofs.AnyChain.Equations.{reported_solves, exact_solves}
+use Rattle.balance.proofs.AnyChain.Bounds.{reported_at_most, reported_inflow, exact_at_most, below_exact, less_than_2i}
+use Rattle.balance.proofs.AnyChain.Monotone.{reported_falls_along, exact_falls_along}
 
 module _ {scale : ℕ} {chain : Chain} (pos : 0 < scale) (sound : Sound scale chain) where
   pub factor_promise : {rate : ℕ → ℕ} (i : ℕ) → i < chain.count → FactorPromise scale chain rate i (reported_factor scale chain rate i)

@@ -7,11 +7,11 @@ use mathlib.Core.Path.{ap}
 use Rattle.balance.specs.Chain.{Chain}
 use Rattle.balance.specs.Sound.{Sound}
 use Rattle.balance.specs.Balance.{K}
-use Rattle.balance.proofs.Inflow.{inflow_order}
-use Rattle.balance.proofs.Equations.{ReportedFactors, ExactFactors}
-use Rattle.balance.proofs.Rounding.{rounded_mono}
-use Rattle.balance.proofs.AlongChain.{along_chain}
-use Rattle.balance.proofs.Order.{removal_rises, stays_below}
+use Rattle.balance.proofs.AnyChain.Inflow.{inflow_order}
+use Rattle.balance.proofs.AnyChain.Equations.{ReportedFactors, ExactFactors}
+use Rattle.balance.proofs.AnyChain.Rounding.{rounded_mono}
+use Rattle.balance.proofs.AnyChain.AlongChain.{along_chain}
+use Rattle.balance.proofs.AnyChain.Order.{removal_rises, stays_below}
 
 module _ {scale : ℕ} {chain : Chain} {rate higher : ℕ → ℕ} (pos : 0 < scale) (sound : Sound scale chain) (rises : (k : ℕ) → rate k ≤ higher k) where
   pub exact_falls_along :

@@ -6,10 +6,10 @@ use native.Mathlib.Omega.{arith}
 use Rattle.balance.specs.Chain.{Chain}
 use Rattle.balance.specs.Sound.{Sound}
 use Rattle.balance.specs.Balance.{K, removal}
-use Rattle.balance.proofs.Inflow.{inflow_of, inflow_order}
-use Rattle.balance.proofs.Equations.{ExactFactors}
-use Rattle.balance.proofs.Rounding.{order_passes}
-use Rattle.balance.proofs.AlongChain.{along_chain}
+use Rattle.balance.proofs.AnyChain.Inflow.{inflow_of, inflow_order}
+use Rattle.balance.proofs.AnyChain.Equations.{ExactFactors}
+use Rattle.balance.proofs.AnyChain.Rounding.{order_passes}
+use Rattle.balance.proofs.AnyChain.AlongChain.{along_chain}
 
 module _ (chain : Chain) {rate higher : ℕ → ℕ} (rises : (k : ℕ) → rate k ≤ higher k) where
   pub removal_rises : (k : ℕ) → removal chain rate k ≤ removal chain higher k

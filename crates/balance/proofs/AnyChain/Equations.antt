@@ -10,9 +10,9 @@ use Rattle.balance.specs.Chain.{Chain}
 use Rattle.balance.specs.Sound.{Sound}
 use Rattle.balance.specs.Balance.{G, K, removal, reported_factor}
 use Rattle.balance.specs.Exact.{numerators, denominator}
-use Rattle.balance.proofs.Inflow.{inflow_of, inflow_of_list, inflow_scaled}
-use Rattle.balance.proofs.Numerators.{numerators_earlier, numerators_next}
-use Rattle.balance.proofs.Reported.{reported_parent, reported_later}
+use Rattle.balance.proofs.AnyChain.Inflow.{inflow_of, inflow_of_list, inflow_scaled}
+use Rattle.balance.proofs.AnyChain.Numerators.{numerators_earlier, numerators_next}
+use Rattle.balance.proofs.AnyChain.Reported.{reported_parent, reported_later}
 
 -- Of members 0 to i.
 pub record ReportedFactors (scale : ℕ) (chain : Chain) (rate : ℕ → ℕ) (i : ℕ) (r : ℕ → ℕ) : Type 0 where

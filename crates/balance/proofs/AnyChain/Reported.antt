@@ -5,8 +5,8 @@ use lib.ListN.{length, get_or}
 use Rattle.balance.specs.Chain.{Chain}
 use Rattle.balance.specs.Sound.{Sound}
 use Rattle.balance.specs.Balance.{G, K, inflow, removal, reported, reported_factor}
-use Rattle.balance.proofs.Inflow.{inflow_of}
-use Rattle.balance.proofs.MemberOrder.{made_length, made_at, made_parent, made_inflow, made_later}
+use Rattle.balance.proofs.AnyChain.Inflow.{inflow_of}
+use Rattle.balance.proofs.AnyChain.MemberOrder.{made_length, made_at, made_parent, made_inflow, made_later}
 
 module _ (scale : ℕ) (chain : Chain) (rate : ℕ → ℕ) where
   -- The part of a member's inflow that stays in the room.

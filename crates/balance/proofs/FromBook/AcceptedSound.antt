@@ -18,9 +18,9 @@ use Rattle.refusals.proofs.FirstMet.{neither}
 use Rattle.numbers.proofs.NoneMet.{none_below}
 use Rattle.book.proofs.BookPasses.{accepted_passes}
 use Rattle.book.proofs.Ranges.{accepted_ranges}
-use Rattle.balance.proofs.Walk.{Listed}
-use Rattle.balance.proofs.OnceEach.{sum_over, once_each}
-use Rattle.balance.proofs.BookFeeds.{walk_listed}
+use Rattle.balance.proofs.FromBook.Walk.{Listed}
+use Rattle.balance.proofs.FromBook.OnceEach.{sum_over, once_each}
+use Rattle.balance.proofs.FromBook.BookFeeds.{walk_listed}
 
 module _ (book : List ℕ) where
   from_below : (i : ℕ) (js : List ℕ) → some_in js (λ j. leb i (from book j)) ≡ false → FromBelow i (map (feed_of book) js)

@@ -9,10 +9,10 @@ use mathlib.Core.List.{List, [], ◌∷◌, ◌++◌}
 use Rattle.book.specs.declared.feed.Feed.{Feed}
 use Rattle.balance.specs.Chain.{Chain}
 use Rattle.balance.specs.Sound.{FromBelow, shares_from, feeds_below, Sound}
-use Rattle.balance.proofs.Inflow.{inflow_of, inflow_append}
+use Rattle.balance.proofs.AnyChain.Inflow.{inflow_of, inflow_append}
 use Rattle.numbers.specs.Sums.{sum_below}
 use Rattle.numbers.proofs.Sums.{sum_mono, sum_scale}
-use Rattle.balance.proofs.Origin.{inflow_by_origin}
+use Rattle.balance.proofs.AnyChain.Origin.{inflow_by_origin}
 
 shares_append : (i : ℕ) (feeds more : List Feed) → shares_from i (feeds ++ more) ≡ shares_from i feeds + shares_from i more
 shares_append i [] more = omega arith

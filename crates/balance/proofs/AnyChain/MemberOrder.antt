@@ -10,7 +10,7 @@ use Rattle.book.specs.Held.{up_to}
 use Rattle.balance.specs.Chain.{Chain}
 use Rattle.balance.specs.Sound.{Sound}
 use Rattle.balance.specs.Balance.{G, inflow, in_member_order}
-use Rattle.balance.proofs.Inflow.{inflow_of, inflow_of_list, inflow_same}
+use Rattle.balance.proofs.AnyChain.Inflow.{inflow_of, inflow_of_list, inflow_same}
 
 -- Parts that agree of every member make the same factors.
 pub made_alike :

@@ -15,8 +15,8 @@ use Rattle.balance.specs.Chain.{chain_of}
 use Rattle.balance.specs.Sound.{FromBelow}
 use Rattle.balance.specs.Balance.{inflow}
 use Rattle.balance.specs.Inflow.{Fed}
-use Rattle.balance.proofs.BookFeeds.{held_whole}
-use Rattle.balance.proofs.AcceptedSound.{accepted_sound}
+use Rattle.balance.proofs.FromBook.BookFeeds.{held_whole}
+use Rattle.balance.proofs.FromBook.AcceptedSound.{accepted_sound}
 
 -- A feed of the list comes from one of the members that all of them come from.
 from_at : (n : ℕ) (feeds : List Feed) (k : ℕ) (other : Feed) → FromBelow n feeds → k < length feeds → (get_or feeds k other).from < n

@@ -17,10 +17,10 @@ use Rattle.balance.specs.Sound.{Sound}
 use Rattle.balance.specs.Inflow.{Fed}
 use Rattle.balance.specs.Balance.{G, K, inflow, reported}
 use Rattle.balance.specs.Factors.{factor_at, factors_at}
-use Rattle.balance.proofs.Reported.{kept_part}
-use Rattle.balance.proofs.FilledInOrder.{inflow_filled, next_filled, parent_filled, filled_in_order}
-use Rattle.balance.proofs.SoundFactors.{inflow_at_most_g}
-use Rattle.balance.proofs.AcceptedSound.{accepted_sound}
+use Rattle.balance.proofs.AnyChain.Reported.{kept_part}
+use Rattle.balance.proofs.Filling.FilledInOrder.{inflow_filled, next_filled, parent_filled, filled_in_order}
+use Rattle.balance.proofs.AnyChain.SoundFactors.{inflow_at_most_g}
+use Rattle.balance.proofs.FromBook.AcceptedSound.{accepted_sound}
 
 -- As much as a scale's worth of the parent's factor fits a word.
 pub word_holds : {scale amount : ℕ} → scale ≤ 1000000 → amount ≤ scale * G → amount < 2 ^ 64

@@ -12,8 +12,8 @@ use Rattle.book.specs.declared.feed.Feed.{Feed}
 use Rattle.balance.specs.Chain.{Chain}
 use Rattle.balance.specs.Sound.{FromBelow, Sound}
 use Rattle.balance.specs.Balance.{G, inflow, in_member_order}
-use Rattle.balance.proofs.Inflow.{inflow_of_list, inflow_same}
-use Rattle.balance.proofs.MemberOrder.{made, made_length, made_parent, made_next, made_up_to}
+use Rattle.balance.proofs.AnyChain.Inflow.{inflow_of_list, inflow_same}
+use Rattle.balance.proofs.AnyChain.MemberOrder.{made, made_length, made_parent, made_next, made_up_to}
 
 -- The inflow reads no factor past the members that the feeds come from.
 inflow_front : (k : ℕ) (factors rest : List ℕ) (feeds : List Feed) → FromBelow k feeds → length factors ≡ k →

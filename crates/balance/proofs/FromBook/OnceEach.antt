@@ -10,11 +10,11 @@ use lib.ListN.{length}
 use Rattle.book.specs.declared.feed.Feed.{Feed}
 use Rattle.balance.specs.Sound.{FromBelow, shares_from}
 use Rattle.book.specs.BookGrounds.{occurrences}
-use Rattle.balance.proofs.Inflow.{inflow_of}
+use Rattle.balance.proofs.AnyChain.Inflow.{inflow_of}
 use Rattle.numbers.specs.Sums.{sum_below}
 use Rattle.numbers.proofs.Sums.{sum_mono}
-use Rattle.balance.proofs.Origin.{inflow_by_origin}
-use Rattle.balance.proofs.Walk.{Listed}
+use Rattle.balance.proofs.AnyChain.Origin.{inflow_by_origin}
+use Rattle.balance.proofs.FromBook.Walk.{Listed}
 
 abbrev places : List ℕ → List Feed
 places [] = []

@@ -13,7 +13,7 @@ use Rattle.numbers.specs.Sums.{sum_below}
 use Rattle.numbers.proofs.Sums.{sum_mono}
 use Rattle.book.specs.declared.feed.Feed.{Feed}
 use Rattle.balance.specs.Sound.{FromBelow, shares_from}
-use Rattle.balance.proofs.Inflow.{inflow_of}
+use Rattle.balance.proofs.AnyChain.Inflow.{inflow_of}
 
 -- One feed's part of a sum over the members that feeds leave.
 leaving : (feed : Feed) (i : ℕ) → feed.from ≡ i → cond (eqb feed.from i) feed.share 0 ≡ feed.share

@@ -1,0 +1,3 @@
+-- The call.
+pub mod CallAnswers
+pub mod CallPasses
