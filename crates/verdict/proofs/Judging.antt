@@ -1,5 +1,5 @@
 -- The sums in limbs are those of the assessment: a factor is at most G, so the cap leaves it as it is.
-use Prim.Native.Nat.{ℕ, ◌+◌, ◌*◌, ◌%◌, ◌^◌, ◌≤◌, ◌<◌, min}
+use Prim.Native.Nat.{ℕ, ◌*◌, ◌%◌, ◌^◌, ◌≤◌, ◌<◌}
 use native.Mathlib.Nat.{one-mul}
 use native.Mathlib.Omega.{arith}
 use mathlib.Core.Path.{◌≡◌, sym, ap, ◌∙◌}
@@ -15,17 +15,14 @@ use Rattle.verdict.specs.HeldNumbers.{number_in, term_in, assessment_in, judged_
 use Rattle.verdict.specs.declared.verdict.Criterion.{Criterion}
 use Rattle.verdict.specs.declared.verdict.Judgement.{Judgement}
 use Rattle.verdict.specs.declared.verdict.Verdict.{Verdict}
-use Rattle.verdict.proofs.ExactLimbs.{held, multiple_held}
-use Rattle.verdict.proofs.Summing.{sum_top}
+use Rattle.verdict.proofs.Columns.{uncapped}
+use Rattle.verdict.proofs.ExactLimbs.{exact_multiple}
 use Rattle.numbers.proofs.Sums.{sum_same}
-
-uncapped : (f i : ℕ) → f ≤ G → min (f + 0 * i) G ≡ f
-uncapped f i h = omega arith
 
 module _ (by : Criterion) (coefficients : List (List ℕ)) (factors : List ℕ) where
   -- what `weighted_sum` answers
   abbrev Answered : ℕ → ℕ → Type 0
-  Answered margin sum = (sum ≡ sum_below (length factors) (term_in by coefficients factors margin)) × (sum ≤ sum_top)
+  Answered margin sum = (sum ≡ sum_below (length factors) (term_in by coefficients factors margin)) × (sum ≤ 2 ^ 117)
 
   low_sum :
       {sum : ℕ} → ((i : ℕ) → i < length factors → get_or factors i 0 ≤ G) → Answered 0 sum →
@@ -33,7 +30,7 @@ module _ (by : Criterion) (coefficients : List (List ℕ)) (factors : List ℕ) 
   low_sum capped answered =
       answered.0
       ∙ sum_same (length factors)
-      (λ i l. ap (λ f. weight_of by (number_in coefficients) i * f) (uncapped (get_or factors i 0) i (capped i l)))
+      (λ i l. ap (λ f. weight_of by (number_in coefficients) i * f) (uncapped (get_or factors i 0) i G (capped i l)))
 
   pub sums_are :
       {lows highs B : ℕ} → Summable by coefficients factors → Answered 0 lows → Answered 2 highs → B ≡ bound_of by →
@@ -49,7 +46,7 @@ module _ (by : Criterion) (coefficients : List (List ℕ)) (factors : List ℕ) 
 
 -- The sums are small enough for their products with a concentration to be exact.
 pub product_exact : {sum C product : ℕ} → sum ≤ 2 ^ 117 → C ≤ max_level → product ≡ sum * C % modulus → product ≡ C * sum
-product_exact fits small e = (multiple_held e (held fits) small (lit< tt)).is ∙ omega arith
+product_exact fits small e = exact_multiple e fits small (lit< tt) ∙ omega arith
 
 module _ {a : Assessment} {lows highs B : ℕ} (sums : SumsOf a lows highs B) where
   -- Low and High at C are C times what they are at 1.

@@ -10,9 +10,9 @@ pub mod CommonFactor
 pub mod Proportion
 pub mod Restated
 pub mod LevelNumbers
--- The sums in limbs.
+-- The sums over the members, and their multiples in limbs.
+pub mod Columns
 pub mod ExactLimbs
-pub mod Summing
 pub mod SameAssessment
 pub mod Judging
 -- What is promised.

@@ -11,6 +11,11 @@ use Rattle.verdict.specs.declared.verdict.Judgement.{Judgement}
 abbrev pub number_in : List (List ℕ) → ℕ → ℕ → ℕ
 number_in coefficients i which = get_or (get_or coefficients i []) which 0
 
+-- A member's number times its factor with a margin, capped.
+abbrev pub raised_in : List (List ℕ) → List ℕ → ℕ → ℕ → ℕ → ℕ → ℕ
+raised_in coefficients factors which margin cap i =
+    number_in coefficients i which * min (get_or factors i 0 + margin * i) cap
+
 -- A member's term of Low (margin 0) and of High (margin 2): the weight times the factor with its margin, capped at G.
 abbrev pub term_in : Criterion → List (List ℕ) → List ℕ → ℕ → ℕ → ℕ
 term_in by coefficients factors margin i =

@@ -89,7 +89,7 @@ fn bound_of(by: Criterion) -> Wide
 }
 
 // The amount times the scale times 2^40, the grains of the parent.
-fn in_grains(amount: u64, scale: u32) -> Wide
+pub(crate) fn in_grains(amount: u64, scale: u32) -> Wide
     ensures { result ≡ amount * scale * G }
 {
     Wide::from(amount)

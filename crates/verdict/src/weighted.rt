@@ -1,39 +1,61 @@
 // Sums of weighted factors, which pass 64 bits.
-ghost use Rattle.std.specs.Prelude.{◌≡◌, ◌+◌, ◌*◌, ◌^◌, ◌≤◌, min, length};
+ghost use Rattle.std.specs.Prelude.{◌≡◌, ◌+◌, ◌*◌, ◌^◌, ◌<◌, ◌≤◌, min, length};
 ghost use Rattle.book.specs.Limits.{max_members};
 ghost use Rattle.balance.specs.Balance.{G};
 ghost use Rattle.numbers.specs.Sums.{sum_below};
-ghost use Rattle.verdict.specs.HeldNumbers.{term_in};
+ghost use Rattle.verdict.specs.HeldNumbers.{raised_in, term_in};
 
-use crate::verdict::{Criterion, first_place};
+use crate::verdict::{Criterion, first_place, in_grains};
 use balance::GRAINS;
 use book::Coefficients;
 use wide::Wide;
 
-const DAYS_PER_YEAR: u64 = 365;
+const DAYS_PER_YEAR: u128 = 365;
 
-// A factor with an allowance for its rounding, capped at the parent's.
-fn raised(factor: u64, allowance: u64) -> u64
-    requires { allowance ≤ G }
-    ensures { result ≡ min (factor + allowance) G }
+// 2^64.
+const WORD: u128 = 0x1_0000_0000_0000_0000;
+
+// 2^24: a word is so many times the parent's 2^40 grains.
+const WORD_OF_GRAINS: u32 = 0x100_0000;
+
+// The sum of one of the members' numbers times each factor, which is raised by the margin for each place before it, and
+// capped. Sixteen terms of at most 96 bits stay within 128; in six limbs each addition would carry through all six.
+#[tactic(auto, unfolding(numbers::specs::Sums::sum_below))]
+pub(crate) fn column_sum(
+    coefficients: &[Coefficients],
+    factors: &[u64],
+    which: usize,
+    margin: u64,
+    cap: u64,
+) -> u128
+    requires rows { length coefficients.now ≡ length factors.now }
+    requires members { length factors.now ≤ max_members }
+    requires which { which < 5 }
+    requires margin { margin ≤ 2 }
+    ensures exact { result ≡ sum_below (length factors.now) (raised_in coefficients.now factors.now which margin cap) }
+    ensures small { result ≤ 2 ^ 36 * cap }
 {
-    factor.saturating_add(allowance).min(GRAINS)
+    let mut sum = 0;
+    for (i, factor) in factors.iter().enumerate() {
+        // A u64 has no `From<usize>`; the cast cuts nothing.
+        let raised = factor.saturating_add(margin * i as u64).min(cap);
+        sum += u128::from(raised) * u128::from(coefficients[i][which]);
+    }
+    sum
 }
 
-// A factor times its member's weight.
-fn weighted(factor: u64, inhalation: u32, submersion: u32, x: u32, y: u32) -> Wide
-    requires { factor ≤ G }
-    ensures exact { result ≡ (365 * x * inhalation + y * submersion) * factor }
-    ensures small { result ≤ 2 ^ 113 }
+// A sum in six limbs.
+pub(crate) fn widened(sum: u128) -> Wide
+    ensures { result ≡ sum }
 {
-    let breathed = Wide::from(factor * DAYS_PER_YEAR)
-        .wrapping_mul(inhalation)
-        .wrapping_mul(x);
-    let immersed = Wide::from(factor).wrapping_mul(submersion).wrapping_mul(y);
-    breathed.wrapping_add(immersed)
+    let upper = (sum / WORD) as u64;
+    let lower = (sum % WORD) as u64;
+    in_grains(upper, WORD_OF_GRAINS).wrapping_add(Wide::from(lower))
 }
 
-// Low at one mBq/m³ with margin 0, High with margin 2. At most sixteen terms of at most 2^113 do not pass six limbs.
+// Low at one mBq/m³ with margin 0, High with margin 2. By columns, so that what the members have in common is multiplied
+// once.
+#[tactic(auto, using(crate::proofs::Columns::by_columns))]
 pub(crate) fn weighted_sum(
     by: Criterion,
     coefficients: &[Coefficients],
@@ -47,14 +69,7 @@ pub(crate) fn weighted_sum(
     ensures small { result ≤ 2 ^ 117 }
 {
     let first = first_place(by.kind);
-    coefficients
-        .iter()
-        .zip(factors)
-        .enumerate()
-        .map(|(i, (numbers, factor))| {
-            // A u64 has no `From<usize>`; the cast cuts nothing.
-            let factor = raised(*factor, margin * i as u64);
-            weighted(factor, numbers[first], numbers[first + 1], by.x, by.y)
-        })
-        .fold(Wide::from(0), Wide::wrapping_add)
+    let inhaled = column_sum(coefficients, factors, first, margin, GRAINS);
+    let submersed = column_sum(coefficients, factors, first + 1, margin, GRAINS);
+    widened(DAYS_PER_YEAR * u128::from(by.x) * inhaled + u128::from(by.y) * submersed)
 }

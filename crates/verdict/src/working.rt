@@ -4,6 +4,7 @@ ghost use Rattle.book.specs.Limits.{max_members};
 ghost use Rattle.verdict.specs.WorkingLevels.{working_levels};
 ghost use Rattle.verdict.specs.HeldNumbers.{alpha_in, WorkingInRange};
 
+use crate::weighted::{column_sum, widened};
 use book::Coefficients;
 use wide::Wide;
 
@@ -26,25 +27,19 @@ pub struct WorkingLevels {
 }
 
 // The sum of alpha energy weight times factor over every member but the gas; like Low it does not pass six limbs.
+#[tactic(auto, using(crate::proofs::Columns::alpha_column))]
 pub fn alpha_sum(coefficients: &[Coefficients], factors: &[u64]) -> Wide
     requires rows { length coefficients.now ≡ length factors.now }
     requires members { length factors.now ≤ max_members }
     ensures exact { result ≡ alpha_in coefficients.now factors.now }
     ensures small { result ≤ 2 ^ 117 }
 {
-    coefficients
-        .iter()
-        .zip(factors)
-        .skip(1)
-        .map(|(numbers, factor)| alpha_term(*factor, numbers[ALPHA]))
-        .fold(Wide::from(0), Wide::wrapping_add)
-}
-
-fn alpha_term(factor: u64, weight: u32) -> Wide
-    ensures exact { result ≡ weight * factor }
-    ensures small { result ≤ 2 ^ 113 }
-{
-    Wide::from(factor).wrapping_mul(weight)
+    // The gas is the first member, where there is one.
+    let first = factors.len().min(1);
+    let rows = &coefficients[first..];
+    let others = &factors[first..];
+    // With no margin, and a cap that no factor passes.
+    widened(column_sum(rows, others, ALPHA, 0, u64::MAX))
 }
 
 // From the alpha sums at the rate and at rate 0: none where no member but the gas has an alpha energy weight and a

@@ -6,7 +6,7 @@ use native.Mathlib.Nat.{pos_of_ne-zero}
 use Rattle.wide.specs.Quotient.{LargestQuotient}
 use Rattle.wide.proofs.LargestFactor.{least_of_both}
 use Rattle.verdict.specs.WorkingLevels.{working_levels, equilibrium}
-use Rattle.verdict.proofs.ExactLimbs.{held, multiple_held}
+use Rattle.verdict.proofs.ExactLimbs.{exact_multiple}
 use Rattle.verdict.proofs.working.working_levels.Goals as goal
 
 equilibrium_is : {m r z q : ℕ} → LargestQuotient m z 1000000 q → m ≡ r * 1000000 → r ≤ z → 0 < z → q ≡ equilibrium r z
@@ -19,7 +19,7 @@ unfolding working_levels
 returns c =
     let some : eqb c.args.at_zero 0 ≡ false = rw c.from.ensures at (sym c.eq.ensures ∙ c.if-eq.false) in
     let pos : 0 < c.args.at_zero = pos_of_ne-zero (eqb-false c.args.at_zero 0 some) in
-    let sum = held {x = c.args.at_rate} (le_trans c.requires.falls c.requires.sums) in
-    let millions = multiple_held c.wrapping_mul.ensures sum (le_refl 1000000) (lit< tt) in
-    let whole = equilibrium_is c.capped_quotient-quotient.ensures millions.is c.requires.falls pos in
+    let sum = le_trans c.requires.falls c.requires.sums in
+    let millions = exact_multiple c.wrapping_mul.ensures sum (le_refl 1000000) (lit< tt) in
+    let whole = equilibrium_is c.capped_quotient-quotient.ensures millions c.requires.falls pos in
     rw (some, c.from-equilibrium.ensures, c.from-2.ensures, whole)
