@@ -1,4 +1,5 @@
--- The number that a word of digits writes. One that does not fit a u32 stands as the highest that does, so that whoever limits a number refuses it too.
+-- The number that a word of digits writes. One that does not fit a u32 stands as the highest that does, so that whoever
+-- limits a number refuses it too.
 use Rattle.std.specs.Prelude.{ℕ, ◌+◌, ◌-◌, ◌*◌, ◌&&◌, Bool, true, nat_le, min, cond, List, [], ◌∷◌, Some, None, Option}
 
 -- '0' is 48, '9' is 57.

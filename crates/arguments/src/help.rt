@@ -4,8 +4,8 @@ ghost use Rattle.arguments.specs.Texts.{is_text};
 
 use anyhow::Result;
 
-// Whether a program is asked how it is used, by `--help` alone; then it has said so. No contract speaks of what the system
-// hands to a program.
+// Whether a program is asked how it is used, by `--help` alone; then it has said so.
+// No contract speaks of what the system hands to a program.
 pub fn help_given(rt: &HostRuntime, usage: &str) -> Result<bool> {
     let mut words = std::env::args(rt)?;
     let _program = words.next();

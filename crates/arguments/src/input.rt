@@ -7,7 +7,8 @@ use std::fs::File;
 use std::io;
 use std::io::Read;
 
-// The first `most` bytes that a reader has, or all where it has no more. The bound is said of the Vec, which holds none.
+// The first `most` bytes that a reader has, or all where it has no more.
+// The bound is said of the Vec, which holds none.
 pub fn first_bytes<R: Read + Drop>(alloc: Global, reader: R, most: usize) -> io::Result<Vec<u8>>
     ensures within { IfOk result (λ bytes. vec_len bytes ≤ most) }
     ensures first { IfOk result (λ bytes. IfSome (R.remaining reader) (λ all. bytes.items ≡ take most all)) }

@@ -1,5 +1,5 @@
-// What a program is given: a file's bytes or those of standard input, and numbers in digits; what it says of itself, and
-// how it ends.
+// What a program is given: a file's bytes or those of standard input,
+// and numbers in digits; what it says of itself, and how it ends.
 #![tactic(auto)]
 
 mod ending;

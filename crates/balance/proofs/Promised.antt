@@ -1,5 +1,6 @@
--- Demand 3's promises of the factors: an accepted book means a sound chain, and a sound chain's factors keep them, whatever the rates.
--- A call that answers n has passed its checks, and place i of its list holds member i's reported factor.
+-- Demand 3's promises of the factors: an accepted book means a sound chain, and a sound
+-- chain's factors keep them, whatever the rates. A call that answers n has passed its checks,
+-- and place i of its list holds member i's reported factor.
 use Rattle.refusals.specs.declared.Refusal.{Refusal}
 use Prim.Native.Nat.{ℕ, ◌-◌, ◌≤◌, ◌<◌}
 use native.Mathlib.Nat.{le_refl}
@@ -24,7 +25,8 @@ use Rattle.balance.specs.Private.Fillable.{CallPasses}
 use Rattle.balance.proofs.Call.CallPasses.{call_passes, passing_call}
 use Rattle.balance.proofs.Call.CallAnswers.{filled_answer, filled_list, filled_passed, place_holds, factors_length}
 
-module _ (v : ℕ) (book list : List ℕ) {n : ℕ} (answered : answer_number (factor_answer v book (length list)) ≡ pos n) where
+module _ (v : ℕ) (book list : List ℕ) {n : ℕ}
+    (answered : answer_number (factor_answer v book (length list)) ≡ pos n) where
   abbrev found : Checked
   found = first_met (factor_grounds v book (length list))
 
@@ -48,19 +50,24 @@ module _ (v : ℕ) (book list : List ℕ) {n : ℕ} (answered : answer_number (f
   within i l = let count = passed.1 in omega arith
 
 -- A call within its limits leaves each member's factor in its place, none above the parent's.
-pub accepted_place : (v : ℕ) (book list : List ℕ) → CallPasses v book (length list) → (i : ℕ) → i < members book → get_or (factor_list v book list) i 0 ≡ factor_at book v i
+pub accepted_place : (v : ℕ) (book list : List ℕ) → CallPasses v book (length list) → (i : ℕ) → i < members book →
+    get_or (factor_list v book list) i 0 ≡ factor_at book v i
 accepted_place v book list passes i l =
-    filled_place v book list (ap (λ result. answer_number (answer_if result (members book))) (passing_call v book (length list) passes)) i l
+    filled_place v book list
+    (ap (λ result. answer_number (answer_if result (members book))) (passing_call v book (length list) passes)) i l
 
 pub factor_at_most_g : (book : List ℕ) (v i : ℕ) → Accepted book → i < members book → factor_at book v i ≤ G
-factor_at_most_g book v i accepted l = reported_at_most_g (scale_positive book) (accepted_sound book accepted) (rates_at book v) i i l (le_refl i)
+factor_at_most_g book v i accepted l =
+    reported_at_most_g (scale_positive book) (accepted_sound book accepted) (rates_at book v) i i l (le_refl i)
 
-pub list_promise : (v : ℕ) (book list : List ℕ) → ListPromise v book (factor_answer v book (length list)) (factor_list v book list)
+pub list_promise : (v : ℕ) (book list : List ℕ) →
+    ListPromise v book (factor_answer v book (length list)) (factor_list v book list)
 list_promise v book list n i answered l =
     subst
     (FactorPromise (scale_of book) (chain_of book) (rates_at book v) i)
     (sym (filled_place v book list answered i l))
-    (factor_promise (scale_positive book) (accepted_sound book (filled_call v book list answered).accepted) i (within v book list answered i l))
+    (factor_promise (scale_positive book) (accepted_sound book (filled_call v book list answered).accepted) i
+    (within v book list answered i l))
 
 -- What a call keeps that answers and leaves the list as defined.
 pub kept :
@@ -88,7 +95,8 @@ factor_promises =
       of_any_chain = λ scale chain rate i pos sound l. factor_promise pos sound i l;
       of_higher_rates = λ scale chain rate higher i pos sound l rises. fall_promise pos sound rises i l;
       book_sound = accepted_sound;
-      at_a_rate = λ book v i accepted most within. factor_promise (scale_positive book) (accepted_sound book accepted) i within;
+      at_a_rate =
+          λ book v i accepted most within. factor_promise (scale_positive book) (accepted_sound book accepted) i within;
       at_two_rates = λ book v w i accepted rises most within.
           fall_promise (scale_positive book) (accepted_sound book accepted) (λ k. rates_rise book v w k rises) i within;
       of_the_list = list_promise;
@@ -99,5 +107,6 @@ factor_promises =
           let falls : FallPromise (scale_of book) (chain_of book) (rates_at book v) (rates_at book w) i =
           fall_promise (scale_positive book) sound (λ k. rates_rise book v w k rises) i here
           in
-          rw (filled_place v book list answered i l, filled_place w book other other-answered i there) falls.reported_falls;
+          rw (filled_place v book list answered i l, filled_place w book other other-answered i there)
+          falls.reported_falls;
     }

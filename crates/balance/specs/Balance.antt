@@ -20,7 +20,8 @@ abbrev pub inflow : List ℕ → List Feed → ℕ
 inflow factors [] = 0
 inflow factors (feed ∷ feeds) = feed.share * get_or factors feed.from 0 + inflow factors feeds
 
--- The factors of members 0 to i, made in member order: the parent has G, and each later member what `part` makes of its inflow.
+-- The factors of members 0 to i, made in member order: the parent has G,
+-- and each later member what `part` makes of its inflow.
 unfoldable pub in_member_order : Chain → (ℕ → ℕ → ℕ) → ℕ → List ℕ
 in_member_order chain part zero = G ∷ []
 in_member_order chain part (suc i) =

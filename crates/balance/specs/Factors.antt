@@ -20,7 +20,8 @@ factor_at book v i = reported_factor (scale_of book) (chain_of book) (rates_at b
 -- 3; the book's grounds; 19. the lent list is shorter than n.
 abbrev pub factor_grounds : ℕ → List ℕ → ℕ → List Ground
 factor_grounds v book capacity =
-    ground_of RateTooHigh (rate_too_high v) ∷ book_grounds book ++ (ground_of ListTooShort (ltb capacity (members book)) ∷ [])
+    ground_of RateTooHigh (rate_too_high v) ∷ book_grounds book
+    ++ (ground_of ListTooShort (ltb capacity (members book)) ∷ [])
 
 -- Accepted, the call answers n, and the first n places of the list hold the factors.
 abbrev pub factor_answer : ℕ → List ℕ → ℕ → Result ℕ Refusal

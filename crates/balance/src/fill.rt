@@ -24,8 +24,8 @@ fn member_factor(inflow: u64, scale: u64, half_life: u64, v: Rate) -> u64
 }
 
 // The factors of every member of an accepted book at rate `v`, into the first places of `out`. They are made in member
-// order, and each is read back from its place by the members that it feeds. Rate and chain stay two parameters, here and
-// above: many rates are taken of one chain.
+// order, and each is read back from its place by the members that it feeds. Rate and chain stay two parameters, here
+// and above: many rates are taken of one chain.
 pub fn fill_accepted(v: Rate, chain: AcceptedChain<'_>, out: &mut [u64])
     requires { members chain.chain.now.bytes.now ≤ length out.old }
     ensures filled { let book = chain.entry.chain.now.bytes.now in

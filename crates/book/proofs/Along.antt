@@ -1,5 +1,5 @@
--- The feeds along next, one at a time: a list from j on is j and then the list from the feed after it, with one fewer to
--- come; it ends at feed 0 and at the cut.
+-- The feeds along next, one at a time: a list from j on is j and then the list from the feed after it, with one fewer
+-- to come; it ends at feed 0 and at the cut.
 use Prim.Native.Nat.{ℕ, zero, suc, ◌-◌, ◌≤◌, ◌<◌}
 use mathlib.Core.Path.{◌≡◌, refl}
 use mathlib.Core.List.{[], ◌∷◌}
@@ -18,7 +18,8 @@ module _ (following : ℕ → ℕ) where
   unfolding along
   along_cut j = refl
 
-  pub along_step : (left j : ℕ) → 0 < j → 0 < left → along following left j ≡ j ∷ along following (left - 1) (following j)
+  pub along_step : (left j : ℕ) → 0 < j → 0 < left →
+      along following left j ≡ j ∷ along following (left - 1) (following j)
   unfolding along
   along_step zero j h l = absurd (omega arith)
   along_step (suc left) zero h l = absurd (omega arith)

@@ -3,7 +3,9 @@ use Prim.Native.Nat.{ℕ}
 use mathlib.Core.Path.{◌≡◌}
 use mathlib.Core.Bool.{false}
 use mathlib.Core.List.{List}
-use Rattle.book.specs.BookGrounds.{book_too_short, count_out_of_range, book_length_wrong, divisor_or_zeros_wrong, member_out_of_range, feed_out_of_range, feed_not_once, feeds_misplaced, feed_not_from_lower, shares_out_too_high, Accepted}
+use Rattle.book.specs.BookGrounds.{book_too_short, count_out_of_range, book_length_wrong, divisor_or_zeros_wrong}
+use Rattle.book.specs.BookGrounds.{member_out_of_range, feed_out_of_range, feed_not_once, feeds_misplaced}
+use Rattle.book.specs.BookGrounds.{feed_not_from_lower, shares_out_too_high, Accepted}
 use Rattle.refusals.proofs.FirstMet.{not_met}
 
 pub record BookPasses (book : List ℕ) : Type 0 where

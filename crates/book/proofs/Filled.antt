@@ -1,5 +1,5 @@
--- A loop that writes f 0, f 1, .. into the places of a list fills it: after i turns the first i places hold f 0 to f (i - 1)
--- and the others are as they were. This is the invariant of every such loop, over an array or a lent list.
+-- A loop that writes f 0, f 1, .. into the places of a list fills it: after i turns the first i places hold f 0 to f
+-- (i - 1) and the others are as they were. This is the invariant of every such loop, over an array or a lent list.
 use Prim.Native.Nat.{ℕ, zero, suc, ◌+◌, ◌≤◌, ◌<◌}
 use mathlib.Core.Path.{◌≡◌, refl, sym, ◌∙◌, ap}
 use mathlib.Core.List.{List, [], ◌∷◌, ◌++◌, append_assoc, append-nil}
@@ -34,7 +34,8 @@ module _ {A : Type 0} where
       l
 
   -- What a filled place holds.
-  pub filled_at : (n : ℕ) (f : ℕ → A) (list : List A) (k : ℕ) (other : A) → k < n → get_or (filled n f list) k other ≡ f k
+  pub filled_at : (n : ℕ) (f : ℕ → A) (list : List A) (k : ℕ) (other : A) → k < n →
+      get_or (filled n f list) k other ≡ f k
   filled_at n f list k other l =
       get_or-append (up_to n f) _ other k (omega (arith, length_up_to n f)) ∙ up_to_at n f k other l
 
@@ -42,8 +43,8 @@ module _ {A : Type 0} where
   unfolding up_to
   filled_none capacity = record { capacity = capacity; turns = omega arith; size = refl; content = refl }
 
-  pub filled_more : {f : ℕ → A} {list : List A} {n i : ℕ} {now : List A} {v : A} → Filled f list n i now → i < n → v ≡ f i →
-      Filled f list n (i + 1) (set now i v)
+  pub filled_more : {f : ℕ → A} {list : List A} {n i : ℕ} {now : List A} {v : A} → Filled f list n i now → i < n →
+      v ≡ f i → Filled f list n (i + 1) (set now i v)
   unfolding up_to
   filled_more {f} {list} {n} {i} {now} {v} h l e =
       let r : i < length list = omega arith in
@@ -52,7 +53,13 @@ module _ {A : Type 0} where
         turns = omega arith;
         size = length-set now i v ∙ h.size;
         content =
-            rw (h.content, drop-cons list i v r, set_at (up_to i f) (get_or list i v) (drop (suc i) list) v i (length_up_to i f), e, add-one)
+            rw (
+              h.content,
+              drop-cons list i v r,
+              set_at (up_to i f) (get_or list i v) (drop (suc i) list) v i (length_up_to i f),
+              e,
+              add-one,
+            )
             (sym (append_assoc (up_to i f) (f i ∷ []) (drop (suc i) list)));
       }
 
@@ -64,12 +71,14 @@ module _ {A : Type 0} where
       rw (h.content, drop-cons list i other r)
       (get_or_at (up_to i f) (get_or list i other) (drop (suc i) list) other i (length_up_to i f))
 
-  pub filled_all : {f : ℕ → A} {list : List A} {n i : ℕ} {now : List A} → Filled f list n i now → n ≤ i → now ≡ filled n f list
+  pub filled_all : {f : ℕ → A} {list : List A} {n i : ℕ} {now : List A} → Filled f list n i now → n ≤ i →
+      now ≡ filled n f list
   filled_all {f} {list} h l = h.content ∙ ap (λ k. filled k f list) (le_antisymm h.turns l)
 
   -- A part that is filled, with the rest of the list.
-  pub filled_of_part : (n : ℕ) (f : ℕ → A) (list : List A) {now : List A} → n ≤ length list → now ≡ filled n f (take n list) →
-      now ++ drop n list ≡ filled n f list
+  pub filled_of_part : (n : ℕ) (f : ℕ → A) (list : List A) {now : List A} → n ≤ length list →
+      now ≡ filled n f (take n list) → now ++ drop n list ≡ filled n f list
   filled_of_part n f list capacity part =
-      let none : drop n (take n list) ≡ [] = drop_of_length-le (take n list) (omega (arith, length-take-le n list capacity)) in
+      let none : drop n (take n list) ≡ [] =
+      drop_of_length-le (take n list) (omega (arith, length-take-le n list capacity)) in
       rw (part, none, append-nil) refl

@@ -1,5 +1,5 @@
--- What the arrays of a held chain hold: each is filled with the book's numbers up to the count of members, and each member's feeds
--- stand between two ends. Of an accepted book the count is within its limit, so that none is cut.
+-- What the arrays of a held chain hold: each is filled with the book's numbers up to the count of members, and each
+-- member's feeds stand between two ends. Of an accepted book the count is within its limit, so that none is cut.
 use Prim.Native.Nat.{ℕ, zero, suc, ◌-◌, ◌≤◌, ◌<◌}
 use native.Mathlib.Omega.{arith}
 use native.Mathlib.Nat.{min-eq_left}
@@ -42,7 +42,11 @@ later_feeds book i k l =
     le_ind
     (λ k. (rest : List ℕ) × (feeds_in_order book k ≡ (feeds_in_order book i ++ held_feeds book i) ++ rest))
     ([], sym (append-nil (feeds_in_order book i ++ held_feeds book i)))
-    (λ k h ih. (ih.0 ++ held_feeds book k, ap (λ js. js ++ held_feeds book k) ih.1 ∙ append_assoc (feeds_in_order book i ++ held_feeds book i) ih.0 (held_feeds book k)))
+    (λ k h ih. (
+      ih.0 ++ held_feeds book k,
+      ap (λ js. js ++ held_feeds book k) ih.1
+          ∙ append_assoc (feeds_in_order book i ++ held_feeds book i) ih.0 (held_feeds book k),
+    ))
     k
     l
 
@@ -54,16 +58,19 @@ pub start_before_end : (book : List ℕ) (i : ℕ) → length (feeds_in_order bo
 unfolding feeds_in_order
 start_before_end book i = omega (arith, length-append (feeds_in_order book i) (held_feeds book i))
 
-module _ {book half_lives ends : List ℕ} {members : ℕ} {feeds : List Feed} (held : Holding book members half_lives ends feeds) where
+module _ {book half_lives ends : List ℕ} {members : ℕ} {feeds : List Feed}
+    (held : Holding book members half_lives ends feeds) where
   module _ (i : ℕ) (l : i < member_places book) where
     pub half_life_at : get_or half_lives i 0 ≡ half_life book i
-    half_life_at = rw held.half_life_array (filled_at (member_places book) (half_life book) (replicate max_members 0) i 0 l)
+    half_life_at =
+        rw held.half_life_array (filled_at (member_places book) (half_life book) (replicate max_members 0) i 0 l)
 
     pub end_at : get_or ends i 0 ≡ feeds_end book i
     end_at = rw held.end_array (filled_at (member_places book) (feeds_end book) (replicate max_members 0) i 0 l)
 
     -- The part of the array from the first of member i's feeds on.
-    pub feeds_at : take (feeds_end book i - length (feeds_in_order book i)) (drop (length (feeds_in_order book i)) feeds) ≡ map (feed_of book) (held_feeds book i)
+    pub feeds_at : take (feeds_end book i - length (feeds_in_order book i))
+        (drop (length (feeds_in_order book i)) feeds) ≡ map (feed_of book) (held_feeds book i)
     unfolding feeds_in_order
     feeds_at =
         let before = feeds_in_order book i in
@@ -71,16 +78,24 @@ module _ {book half_lives ends : List ℕ} {members : ℕ} {feeds : List Feed} (
         let later = later_feeds book i (member_places book) l in
         let count : feeds_end book i - length before ≡ length own = omega (arith, length-append before own) in
         let f = feed_of book in
-        let list : feeds ≡ map f before ++ (map f own ++ (map f later.0 ++ drop (length (map f (feeds_in_order book (member_places book)))) no_feeds)) =
+        let list : feeds ≡ map f before
+        ++ (map f own ++ (map f later.0 ++ drop (length (map f (feeds_in_order book (member_places book)))) no_feeds)) =
         held.feed_array
         ∙ ap (λ js. map f js ++ drop (length (map f (feeds_in_order book (member_places book)))) no_feeds) later.1
-        ∙ rw (map-append f (before ++ own) later.0, map-append f before own, append_assoc (map f before) (map f own) (map f later.0)) (append_assoc (map f before) (map f own ++ map f later.0) _ ∙ ap (λ fs. map f before ++ fs) (append_assoc (map f own) (map f later.0) _))
+        ∙ rw (
+          map-append f (before ++ own) later.0,
+          map-append f before own,
+          append_assoc (map f before) (map f own) (map f later.0),
+        ) (append_assoc (map f before) (map f own ++ map f later.0) _
+        ∙ ap (λ fs. map f before ++ fs) (append_assoc (map f own) (map f later.0) _))
         in
-        ap (take (feeds_end book i - length before)) (ap (drop (length before)) list ∙ drop_at (map f before) _ (length before) (length-map before f))
+        ap (take (feeds_end book i - length before))
+        (ap (drop (length before)) list ∙ drop_at (map f before) _ (length before) (length-map before f))
         ∙ take_at (map f own) _ (feeds_end book i - length before) (length-map own f ∙ sym count)
 
 -- Number `which` of a member's five.
-pub row_at : (book : List ℕ) (i which : ℕ) → which < coefficient_count → get_or (coefficients_of book i) which 0 ≡ coefficient book i which
+pub row_at : (book : List ℕ) (i which : ℕ) → which < coefficient_count →
+    get_or (coefficients_of book i) which 0 ≡ coefficient book i which
 row_at book i zero l = refl
 row_at book i (suc zero) l = refl
 row_at book i (suc (suc zero)) l = refl

@@ -1,5 +1,6 @@
--- No accepted book is longer than `longest_book`, since it has at most 16 members and 64 feeds. A longer one is refused by ground 10 or 11, and those read
--- its two counts and its length: so as many bytes of it as are one too many are refused as it is.
+-- No accepted book is longer than `longest_book`, since it has at most 16 members and 64 feeds.
+-- A longer one is refused by ground 10 or 11, and those read its two counts and its length: so
+-- as many bytes of it as are one too many are refused as it is.
 use Rattle.std.specs.Prelude.{Err}
 use Prim.Native.Nat.{ℕ, ◌+◌, ◌*◌, ◌<◌}
 use native.Mathlib.Omega.{arith}
@@ -33,13 +34,14 @@ length_wrong n m size long counts =
     (λ e. omega (arith, ltb-false max_members n few.1, ltb-false max_feeds m both.1)))
 
 count_or_length :
-    (short counts wrong : Bool) (first second third : Refusal) (rest : Checked) → short ≡ false → (counts ≡ false → wrong ≡ true) →
-    cond short (Err first) (cond counts (Err second) (cond wrong (Err third) rest))
+    (short counts wrong : Bool) (first second third : Refusal) (rest : Checked) → short ≡ false →
+    (counts ≡ false → wrong ≡ true) → cond short (Err first) (cond counts (Err second) (cond wrong (Err third) rest))
     ≡ Err (cond counts second third)
 count_or_length short true wrong first second third rest long otherwise = rw long
 count_or_length short false wrong first second third rest long otherwise = rw (long, otherwise refl)
 
-pub long_book : (book : List ℕ) → longest_book < length book → first_met (book_grounds book) ≡ Err (ground_of_long (members book) (feed_count book))
+pub long_book : (book : List ℕ) → longest_book < length book →
+    first_met (book_grounds book) ≡ Err (ground_of_long (members book) (feed_count book))
 unfolding book_too_short count_out_of_range book_length_wrong
 long_book book long =
     count_or_length (book_too_short book) (count_out_of_range book) (book_length_wrong book) _ _ _ _
@@ -53,4 +55,5 @@ pub long_book_cut :
 long_book_cut book long =
     let size = length-take-le (longest_book + 1) book (omega arith) in
     long_book (take (longest_book + 1) book) (omega arith)
-    ∙ ap₂ (λ n m. Err (ground_of_long n m)) (get_or-take (longest_book + 1) book 0 0 (omega arith)) (get_or-take (longest_book + 1) book 1 0 (omega arith))
+    ∙ ap₂ (λ n m. Err (ground_of_long n m)) (get_or-take (longest_book + 1) book 0 0 (omega arith))
+    (get_or-take (longest_book + 1) book 1 0 (omega arith))

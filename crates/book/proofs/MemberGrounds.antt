@@ -1,5 +1,5 @@
--- The grounds of a book in two parts: those of its feeds are looked for where those of its members are not met, and then
--- its count of members is within the limit.
+-- The grounds of a book in two parts: those of its feeds are looked for where those of its members are not met, and
+-- then its count of members is within the limit.
 use Rattle.std.specs.Prelude.{Ok}
 use Rattle.std.proofs.Common.{◌≡◌, ◌≤◌, List, ℕ}
 use Rattle.refusals.specs.Grounds.{first_met, or_else}
@@ -9,7 +9,8 @@ use Rattle.book.specs.Fields.{members}
 use Rattle.book.specs.BookGrounds.{book_too_short, count_out_of_range, member_grounds, feed_grounds, book_grounds}
 use Rattle.book.proofs.Ranges.{counts}
 
-pub two_parts : (book : List ℕ) → first_met (book_grounds book) ≡ or_else (first_met (member_grounds book)) (first_met (feed_grounds book))
+pub two_parts : (book : List ℕ) →
+    first_met (book_grounds book) ≡ or_else (first_met (member_grounds book)) (first_met (feed_grounds book))
 two_parts book = first_of_both (member_grounds book) (feed_grounds book)
 
 pub members_counted : (book : List ℕ) → first_met (member_grounds book) ≡ Ok tt → members book ≤ max_members

@@ -23,14 +23,16 @@ over_more front v list k e h =
     rw (e, drop-cons list k v h, set_at front (get_or list k v) (drop (suc k) list) v k e, more)
     (sym (append_assoc front (v ∷ []) (drop (suc k) list)))
 
-placed_more : {book done : List ℕ} {before feeds : List Feed} (j : ℕ) {at : ℕ} {v : Feed} → length done ≡ at → at < max_feeds →
-    Placed book done before feeds → v ≡ feed_of book j → Placed book (done ++ (j ∷ [])) before (set feeds at v)
+placed_more : {book done : List ℕ} {before feeds : List Feed} (j : ℕ) {at : ℕ} {v : Feed} →
+    length done ≡ at → at < max_feeds → Placed book done before feeds → v ≡ feed_of book j →
+    Placed book (done ++ (j ∷ [])) before (set feeds at v)
 placed_more {book} {done} {before} j {at} e h p q =
     record {
       size = p.size;
       list =
           rw (p.list, q, map-append (feed_of book) done (j ∷ []))
-          (over_more (map (feed_of book) done) (feed_of book j) before at (length-map done (feed_of book) ∙ e) (rw p.size h));
+          (over_more (map (feed_of book) done) (feed_of book j) before at (length-map done (feed_of book) ∙ e)
+          (rw p.size h));
     }
 
 module _ {book : List ℕ} {at : ℕ} {feeds : List Feed} where
@@ -63,7 +65,8 @@ pub extending_none :
     start + length all ≤ max_feeds → Extending book all start feeds feeds all start
 extending_none h = record { place = h; rest = λ more. more }
 
-module _ {book all left : List ℕ} {feeds₀ feeds : List Feed} {start at : ℕ} (e : Extending book all start feeds₀ feeds left at) where
+module _ {book all left : List ℕ} {feeds₀ feeds : List Feed} {start at : ℕ}
+    (e : Extending book all start feeds₀ feeds left at) where
   pub extending_more :
       {j : ℕ} {v : Feed} {later : List ℕ} → left ≡ j ∷ later → v ≡ feed_of book j →
       Extending book all start feeds₀ (set feeds at v) later (at + 1)
@@ -75,7 +78,8 @@ module _ {book all left : List ℕ} {feeds₀ feeds : List Feed} {start at : ℕ
   extending_all r = e.rest (rw r (nothing (omega (arith, e.place))))
 
 -- After i of `members` turns the feeds of the first i members stand in walk order, and each has its end.
-pub record InOrder (book : List ℕ) (members : ℕ) (ends₀ : List ℕ) (i at : ℕ) (ends : List ℕ) (feeds₀ feeds : List Feed) : Type 0 where
+pub record InOrder (book : List ℕ) (members : ℕ) (ends₀ : List ℕ) (i at : ℕ) (ends : List ℕ)
+    (feeds₀ feeds : List Feed) : Type 0 where
   pub filled_ends : Filled (feeds_end book) ends₀ members i ends
   pub place : at ≤ max_feeds
   pub count : length (feeds_in_order book i) ≡ at
@@ -92,7 +96,8 @@ in_order_none capacity size =
       placed = record { size = size; list = refl };
     }
 
-module _ {book ends₀ ends : List ℕ} {feeds₀ feeds : List Feed} {members i at : ℕ} (s : InOrder book members ends₀ i at ends feeds₀ feeds) where
+module _ {book ends₀ ends : List ℕ} {feeds₀ feeds : List Feed} {members i at : ℕ}
+    (s : InOrder book members ends₀ i at ends feeds₀ feeds) where
   pub in_order_more :
       {end : ℕ} {feeds' : List Feed} → i < members →
       Extended book (along (next book) (max_feeds - at) (first_feed book i)) at end feeds feeds' →
@@ -100,8 +105,12 @@ module _ {book ends₀ ends : List ℕ} {feeds₀ feeds : List Feed} {members i 
   unfolding feeds_in_order
   in_order_more {end} {feeds'} l more =
       let all = more.placed feeds₀ (feeds_in_order book i) s.count s.placed in
-      let listed : feeds_in_order book i ++ along (next book) (max_feeds - at) (first_feed book i) ≡ feeds_in_order book (suc i) = rw (← s.count) refl in
-      let next-all : (length (feeds_in_order book (suc i)) ≡ end) × Placed book (feeds_in_order book (suc i)) feeds₀ feeds' = rw listed at all in
+      let listed :
+      feeds_in_order book i ++ along (next book) (max_feeds - at) (first_feed book i) ≡ feeds_in_order book (suc i) =
+      rw (← s.count) refl in
+      let next-all :
+      (length (feeds_in_order book (suc i)) ≡ end) × Placed book (feeds_in_order book (suc i)) feeds₀ feeds' =
+      rw listed at all in
       record {
         filled_ends = filled_more s.filled_ends l (sym next-all.0);
         place = more.capacity;

@@ -9,9 +9,12 @@ use lib.ListN.{length}
 use lib.Dec.{ltb, leb, eqb}
 use borrow.Author.Tests.{ltb-false, leb-false, eqb-true, eqb-false, not-false}
 use Rattle.book.specs.Limits.{max_members, max_feeds, max_coefficient}
-use Rattle.book.specs.Fields.{members, feed_count, working_level_divisor, half_life, coefficient, first_feed, scale_of, share, from, next}
+use Rattle.book.specs.Fields.{members, feed_count, working_level_divisor, half_life}
+use Rattle.book.specs.Fields.{coefficient, first_feed, scale_of, share, from, next}
 use Rattle.numbers.specs.Tests.{some_below, outside}
-use Rattle.book.specs.BookGrounds.{longest, count_out_of_range, book_length_wrong, divisor_or_zeros_wrong, member_out_of_range, feed_out_of_range, feed_not_once, feeds_misplaced, walk, occurrences, shares_out_of, shares_out_too_high, Accepted}
+use Rattle.book.specs.BookGrounds.{longest, count_out_of_range, book_length_wrong, divisor_or_zeros_wrong}
+use Rattle.book.specs.BookGrounds.{member_out_of_range, feed_out_of_range, feed_not_once, feeds_misplaced, walk}
+use Rattle.book.specs.BookGrounds.{occurrences, shares_out_of, shares_out_too_high, Accepted}
 use Rattle.refusals.proofs.FirstMet.{neither}
 use Rattle.numbers.proofs.NoneMet.{none_below}
 use Rattle.book.proofs.BookPasses.{BookPasses, accepted_passes}
@@ -49,7 +52,8 @@ pub record Ranges (book : List ℕ) : Type 0 where
   pub parent_unfed : first_feed book 0 ≡ 0
   pub later_fed : (i : ℕ) → suc i < members book → 0 < first_feed book (suc i)
 
-pub counts : (book : List ℕ) → count_out_of_range book ≡ false → InRange 1 max_members (members book) × (feed_count book ≤ max_feeds)
+pub counts : (book : List ℕ) → count_out_of_range book ≡ false →
+    InRange 1 max_members (members book) × (feed_count book ≤ max_feeds)
 unfolding count_out_of_range
 counts book passed =
     let parts = neither (outside 1 max_members (members book)) _ passed in
@@ -62,18 +66,25 @@ module _ (book : List ℕ) (passes : BookPasses book) where
 
   divisor : 0 < working_level_divisor book
   unfolding divisor_or_zeros_wrong
-  divisor = pos_of_ne-zero (eqb-false (working_level_divisor book) 0 (neither _ _ (neither _ _ (neither _ _ passes.header).0).0).0)
+  divisor =
+      pos_of_ne-zero (eqb-false (working_level_divisor book) 0
+      (neither _ _ (neither _ _ (neither _ _ passes.header).0).0).0)
 
   member : (i : ℕ) → i < members book → MemberRanges book i
   unfolding member_out_of_range feed_out_of_range shares_out_too_high
   member i l =
-      let numbers = neither (outside 1 (longest i) (half_life book i)) _ (none_below (members book) _ passes.members i l) in
-      let feeds = neither (some_below (feed_count book) _) (some_below (members book) (λ k. ltb (feed_count book) (first_feed book k))) passes.feeds in
+      let numbers =
+      neither (outside 1 (longest i) (half_life book i)) _ (none_below (members book) _ passes.members i l) in
+      let feeds =
+      neither (some_below (feed_count book) _)
+      (some_below (members book) (λ k. ltb (feed_count book) (first_feed book k))) passes.feeds in
       record {
         half_life_in_range = within 1 (longest i) (half_life book i) numbers.0;
-        coefficients = λ which h. ltb-false max_coefficient (coefficient book i which) (none_below 5 _ numbers.1 which h);
+        coefficients =
+            λ which h. ltb-false max_coefficient (coefficient book i which) (none_below 5 _ numbers.1 which h);
         first = ltb-false (feed_count book) (first_feed book i) (none_below (members book) _ feeds.1 i l);
-        shares_out = ltb-false (scale_of book) (shares_out_of book i) (none_below (members book) _ passes.shares_out i l);
+        shares_out =
+            ltb-false (scale_of book) (shares_out_of book i) (none_below (members book) _ passes.shares_out i l);
       }
 
   feed : (j : ℕ) → j < feed_count book → FeedRanges book (suc j)
@@ -81,7 +92,8 @@ module _ (book : List ℕ) (passes : BookPasses book) where
   feed j l =
       let numbers = none_below (feed_count book) _ (neither _ _ passes.feeds).0 j l in
       let all = neither _ (ltb (feed_count book) (next book (suc j))) numbers in
-      let two = neither (outside 1 (scale_of book) (share book (suc j))) (leb (members book) (from book (suc j))) all.0 in
+      let two =
+      neither (outside 1 (scale_of book) (share book (suc j))) (leb (members book) (from book (suc j))) all.0 in
       record {
         share_of_whole = within 1 (scale_of book) (share book (suc j)) two.0;
         from_member = leb-false (members book) _ two.1;
@@ -94,7 +106,8 @@ module _ (book : List ℕ) (passes : BookPasses book) where
   placed =
       let parts = neither _ (some_below (members book - 1) (λ i. eqb (first_feed book (suc i)) 0)) passes.placed in (
         eqb-true (first_feed book 0) 0 (not-false _ parts.0),
-        λ i l. pos_of_ne-zero (eqb-false (first_feed book (suc i)) 0 (none_below (members book - 1) _ parts.1 i (omega arith))),
+        λ i l. pos_of_ne-zero
+            (eqb-false (first_feed book (suc i)) 0 (none_below (members book - 1) _ parts.1 i (omega arith))),
       )
 
 pub accepted_ranges : (book : List ℕ) → Accepted book → Ranges book

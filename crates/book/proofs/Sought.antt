@@ -19,8 +19,8 @@ listed p [] = refl
 listed p (x ∷ xs) = ap (λ b. p x || b) (listed p xs)
 
 pub some_of_feeds :
-    {F : Type 0} {g : Mut F (ℕ × Unit {0}) Bool} {f : F} {s : Feeds} {r : Bool} (u : Feeds) (p : ℕ → Bool) (xs : List ℕ) →
-    ChecksAny (YieldsFirst feeds_left) g s f r u → feeds_left s ≡ xs →
+    {F : Type 0} {g : Mut F (ℕ × Unit {0}) Bool} {f : F} {s : Feeds} {r : Bool} (u : Feeds)
+    (p : ℕ → Bool) (xs : List ℕ) → ChecksAny (YieldsFirst feeds_left) g s f r u → feeds_left s ≡ xs →
     ((x : ℕ) (b : Bool) (q : F) → Called g f (x, tt) b q → (q ≡ f) × (b ≡ p x)) → r ≡ some_in xs p
 some_of_feeds {f = f} {r = r} u p xs ran whole computes =
     any_from_yields_List p u f r ran (YieldsList-from_first (λ x. x) feeds_left xs whole) computes ∙ listed p xs

@@ -1,13 +1,19 @@
 -- The grounds for refusing a book, in checking order (document 01, grounds 9 to 18).
 -- Each may read as if the earlier ones were not met; where they are, its value does not matter.
-use Rattle.std.specs.Prelude.{ℕ, zero, suc, ◌+◌, ◌-◌, ◌≡◌, Bool, not, cond, ◌||◌, List, [], ◌∷◌, ◌++◌, length, leb, ltb, eqb, Ok}
+use Rattle.std.specs.Prelude.{ℕ, zero, suc, ◌+◌, ◌-◌, ◌≡◌, Bool, not, cond, ◌||◌}
+use Rattle.std.specs.Prelude.{List, [], ◌∷◌, ◌++◌, length, leb, ltb, eqb, Ok}
 use Rattle.numbers.specs.Bytes.{u8_at}
 use Rattle.book.specs.Limits.{max_members, max_feeds, max_parent_half_life, max_half_life, max_coefficient}
-use Rattle.book.specs.Fields.{header_length, header_zeros, header_zero_count, member_zeros, member_zero_count, feed_zeros, feed_zero_count, book_length, members, feed_count, working_level_divisor, half_life, coefficient_count, coefficient, first_feed, scale_of, share, from, next, feeds_of}
+use Rattle.book.specs.Fields.{header_length, header_zeros, header_zero_count, member_zeros}
+use Rattle.book.specs.Fields.{member_zero_count, feed_zeros, feed_zero_count, book_length, members}
+use Rattle.book.specs.Fields.{feed_count, working_level_divisor, half_life, coefficient_count}
+use Rattle.book.specs.Fields.{coefficient, first_feed, scale_of, share, from, next, feeds_of}
 use Rattle.refusals.specs.Grounds.{Ground, ground_of, first_met}
 use Rattle.numbers.specs.Tests.{outside, some_below, some_in}
 use Rattle.numbers.specs.Sums.{sum_below}
-use Rattle.refusals.specs.declared.Refusal.TheVariants.{BookTooShort, CountOutOfRange, BookLengthWrong, DivisorOrZerosWrong, MemberOutOfRange, FeedOutOfRange, FeedNotOnce, FeedsMisplaced, FeedNotFromLower, SharesOutTooHigh}
+use Rattle.refusals.specs.declared.Refusal.TheVariants.{BookTooShort, CountOutOfRange, BookLengthWrong}
+use Rattle.refusals.specs.declared.Refusal.TheVariants.{DivisorOrZerosWrong, MemberOutOfRange, FeedOutOfRange}
+use Rattle.refusals.specs.declared.Refusal.TheVariants.{FeedNotOnce, FeedsMisplaced, FeedNotFromLower, SharesOutTooHigh}
 
 -- 9. The book has fewer than 8 bytes.
 unfoldable pub book_too_short : List ℕ → Bool
@@ -32,24 +38,29 @@ divisor_or_zeros_wrong book =
     || some_below (members book) (λ i. some_below member_zero_count (λ k. not_zero book (member_zeros i + k)))
     || some_below (feed_count book) (λ j. some_below feed_zero_count (λ k. not_zero book (feed_zeros book (suc j) + k)))
 
--- 13. Member 0 has T outside 1 to 10^15, a later one outside 1 to 60,000,000,000,000, or one of a member's five numbers exceeds 4,000,000,000.
+-- 13. Member 0 has T outside 1 to 10^15, a later one outside 1 to 60,000,000,000,000,
+-- or one of a member's five numbers exceeds 4,000,000,000.
 abbrev pub longest : ℕ → ℕ
 longest zero = max_parent_half_life
 longest (suc i) = max_half_life
 
 abbrev pub member_wrong : List ℕ → ℕ → Bool
-member_wrong book i = outside 1 (longest i) (half_life book i) || some_below coefficient_count (λ which. ltb max_coefficient (coefficient book i which))
+member_wrong book i =
+    outside 1 (longest i) (half_life book i)
+    || some_below coefficient_count (λ which. ltb max_coefficient (coefficient book i which))
 
 unfoldable pub member_out_of_range : List ℕ → Bool
 member_out_of_range book = some_below (members book) (member_wrong book)
 
 -- 14. A share isn't 1 to 100,000, from isn't below n, or a first or next exceeds m.
 abbrev pub feed_wrong : List ℕ → ℕ → Bool
-feed_wrong book j = outside 1 (scale_of book) (share book j) || leb (members book) (from book j) || ltb (feed_count book) (next book j)
+feed_wrong book j =
+    outside 1 (scale_of book) (share book j) || leb (members book) (from book j) || ltb (feed_count book) (next book j)
 
 unfoldable pub feed_out_of_range : List ℕ → Bool
 feed_out_of_range book =
-    some_below (feed_count book) (λ j. feed_wrong book (suc j)) || some_below (members book) (λ i. ltb (feed_count book) (first_feed book i))
+    some_below (feed_count book) (λ j. feed_wrong book (suc j))
+    || some_below (members book) (λ i. ltb (feed_count book) (first_feed book i))
 
 -- 15. Walking the members in order, some feed comes up twice or, at the end, never.
 unfoldable pub walk : List ℕ → ℕ → List ℕ
@@ -65,7 +76,8 @@ feed_not_once book = some_below (feed_count book) (λ j. not (eqb (occurrences (
 
 -- 16. Member 0 has a feed, or a later one has none.
 unfoldable pub feeds_misplaced : List ℕ → Bool
-feeds_misplaced book = not (eqb (first_feed book 0) 0) || some_below (members book - 1) (λ i. eqb (first_feed book (suc i)) 0)
+feeds_misplaced book =
+    not (eqb (first_feed book 0) 0) || some_below (members book - 1) (λ i. eqb (first_feed book (suc i)) 0)
 
 -- 17. A from isn't lower than the member it feeds.
 unfoldable pub feed_not_from_lower : List ℕ → Bool

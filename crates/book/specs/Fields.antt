@@ -38,7 +38,8 @@ member_at i = header_length + member_length * i
 abbrev pub half_life : List ℕ → ℕ → ℕ
 half_life book i = u64_at book (member_at i)
 
--- A member has five numbers: 0 inhalation risk h, 1 submersion risk s, 2 inhalation dose, 3 submersion dose, 4 alpha energy weight w.
+-- A member has five numbers: 0 inhalation risk h, 1 submersion risk s,
+-- 2 inhalation dose, 3 submersion dose, 4 alpha energy weight w.
 abbrev pub coefficient_count : ℕ
 coefficient_count = 5
 
@@ -48,7 +49,8 @@ coefficient book i which = u32_at book (member_at i + 8 + 4 * which)
 -- All five of member i.
 abbrev pub coefficients_of : List ℕ → ℕ → List ℕ
 coefficients_of book i =
-    coefficient book i 0 ∷ coefficient book i 1 ∷ coefficient book i 2 ∷ coefficient book i 3 ∷ coefficient book i 4 ∷ []
+    coefficient book i 0 ∷ coefficient book i 1 ∷ coefficient book i 2 ∷ coefficient book i 3
+    ∷ coefficient book i 4 ∷ []
 
 abbrev pub first_feed : List ℕ → ℕ → ℕ
 first_feed book i = u8_at book (member_at i + 28)
@@ -98,6 +100,7 @@ along following zero j = []
 along following (suc more) zero = []
 along following (suc more) (suc j) = suc j ∷ along following more (following (suc j))
 
--- A member's feeds. Of m feeds no chain longer than m is without a repeat, so a list cut at m + 1 shows whether there is one.
+-- A member's feeds. Of m feeds no chain longer than m is without a repeat,
+-- so a list cut at m + 1 shows whether there is one.
 abbrev pub feeds_of : List ℕ → ℕ → List ℕ
 feeds_of book i = along (next book) (feed_count book + 1) (first_feed book i)

@@ -17,7 +17,8 @@ filled n f list = up_to n f ++ drop n list
 abbrev pub over : {A : Type 0} → List A → List A → List A
 over front list = front ++ drop (length front) list
 
--- The count of members is cut at the limit, so that what is held of any bytes is defined; that of an accepted book is within it.
+-- The count of members is cut at the limit,
+-- so that what is held of any bytes is defined; that of an accepted book is within it.
 abbrev pub member_places : List ℕ → ℕ
 member_places book = min (members book) max_members
 

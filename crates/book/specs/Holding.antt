@@ -1,4 +1,5 @@
--- What the arrays of a held chain have in them: member i's feeds stand from the end of member i - 1's on, up to its own end.
+-- What the arrays of a held chain have in them:
+-- member i's feeds stand from the end of member i - 1's on, up to its own end.
 use Rattle.std.specs.Prelude.{ℕ, List, map, replicate, ◌≡◌}
 use Rattle.book.specs.Limits.{max_members, max_feeds}
 use Rattle.book.specs.Fields.{half_life, working_level_divisor, coefficient_count, coefficients_of}
@@ -17,5 +18,6 @@ pub record Holding (book : List ℕ) (members : ℕ) (half_lives ends : List ℕ
 -- And what it is screened by: each member's five numbers, and W.
 pub record HoldingNumbers (book : List ℕ) (members : ℕ) (coefficients : List (List ℕ)) (divisor : ℕ) : Type 0 where
   pub count : members ≡ member_places book
-  pub rows : coefficients ≡ filled (member_places book) (coefficients_of book) (replicate max_members (replicate coefficient_count 0))
+  pub rows : coefficients
+      ≡ filled (member_places book) (coefficients_of book) (replicate max_members (replicate coefficient_count 0))
   pub divisor_is : divisor ≡ working_level_divisor book

@@ -8,9 +8,10 @@ ghost use Rattle.book.specs.Holding.{Holding};
 use super::feed::Feed;
 use super::limits::{MAX_FEEDS, MAX_MEMBERS, WHOLE_SHARE};
 
-// The bytes of a book, and what the balance is worked out from. The feeds stand in the order in which the members' walks
-// meet them: member i's are those from the end of member i - 1's on, and up to its own end. With no heap, the arrays are
-// fixed, with their count beside; half-lives and ends are two, since a pair of them has padding, which would be copied.
+// The bytes of a book, and what the balance is worked out from. The feeds stand in the order in
+// which the members' walks meet them: member i's are those from the end of member i - 1's on,
+// and up to its own end. With no heap, the arrays are fixed, with their count beside;
+// half-lives and ends are two, since a pair of them has padding, which would be copied.
 #[derive(Clone, Copy)]
 pub struct HeldChain<'a> {
     pub bytes: &'a [u8],

@@ -1,8 +1,10 @@
-// The fields of a chain book's members and feeds. An index has 16 bits, so that every offset fits 32. Book and index stay
-// two parameters, as in the definitions: a struct of both would be made anew for each index, and clauses name both anyway.
+// The fields of a chain book's members and feeds. An index has 16 bits, so that every offset fits 32.
+// Book and index stay two parameters, as in the definitions: a struct of both would be made anew for
+// each index, and clauses name both anyway.
 ghost use Rattle.std.specs.Prelude.{◌≡◌, ◌<◌, ◌+◌, ◌^◌};
 ghost use Rattle.numbers.specs.Bytes.{u8_at};
-ghost use Rattle.book.specs.Fields.{member_at, half_life, coefficient, coefficients_of, first_feed, feed_at, share, from, next};
+ghost use Rattle.book.specs.Fields.{member_at, half_life, coefficient, coefficients_of};
+ghost use Rattle.book.specs.Fields.{first_feed, feed_at, share, from, next};
 
 use super::counts::member_count;
 use super::layout::{

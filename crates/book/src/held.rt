@@ -27,8 +27,8 @@ fn feeds_along(book: &[u8], i: u16, start: usize, feeds: &mut [Feed; MAX_FEEDS])
         let added = along (next bytes) (max_feeds - start) (first_feed bytes i) in
         Extended bytes added start result feeds.old feeds.new }
 {
-    // With no heap, the feeds lie in a fixed array with their end beside; it is counted by hand, since nothing is known of
-    // what `iter_mut` under a `zip` leaves.
+    // With no heap, the feeds lie in a fixed array with their end beside; it is counted by hand, since nothing is known
+    // of what `iter_mut` under a `zip` leaves.
     let mut at = start;
     for feed in first_feeds(book, i, MAX_FEEDS - start) {
         feeds[at] = feed_of(book, u16::from(feed));

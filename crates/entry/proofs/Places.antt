@@ -50,8 +50,8 @@ module _ {x : ℕ} (some : 0 < x) (whole : x ≤ G) where
   turn_up_to (suc n) few five = by_digits (dec_lt (thousandths x (suc n)) five_digits) (turn_up_to n (omega arith))
     where
       by_digits :
-          Dec (thousandths x (suc n) < five_digits) → (five_digits ≤ thousandths x (suc n) → Turn x (exponent_up_to n x)) →
-          Turn x (exponent_up_to (suc n) x)
+          Dec (thousandths x (suc n) < five_digits) →
+          (five_digits ≤ thousandths x (suc n) → Turn x (exponent_up_to n x)) → Turn x (exponent_up_to (suc n) x)
       by_digits (yes four) lower =
           rw (lt-ltb (thousandths x (suc n)) five_digits four) (record { four = four; five = five; within = few })
       by_digits (no more) lower = rw (le-ltb (thousandths x (suc n)) five_digits (omega arith)) (lower (omega arith))
@@ -100,7 +100,8 @@ module _ {x scaled e : ℕ} (s : Scaling x scaled e) where
 
   pub again : nearest (scaled * 10) G < five_digits → Scaling x (scaled * 10) (e + 1)
   again four =
-      let small : scaled * 10 < five_digits * G = omega (arith, (nearest_between (scaled * 10) G (omega arith)).below) in
+      let small : scaled * 10 < five_digits * G =
+      omega (arith, (nearest_between (scaled * 10) G (omega arith)).below) in
       record {
         some = s.some;
         whole = s.whole;

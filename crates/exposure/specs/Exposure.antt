@@ -33,7 +33,8 @@ max_breathing = 100
 -- 6. A group has EF over 366, ED over 100, ET over 96 or IRA over 100, or Z is 0.
 abbrev pub group_out_of_range : Group → Bool
 group_out_of_range g =
-    ltb max_days g.days || ltb max_years g.years || ltb max_quarter_hours g.quarter_hours || ltb max_breathing g.breathing
+    ltb max_days g.days || ltb max_years g.years || ltb max_quarter_hours g.quarter_hours
+    || ltb max_breathing g.breathing
 
 unfoldable pub exposure_out_of_range : Exposure → Bool
 exposure_out_of_range e = group_out_of_range e.child || group_out_of_range e.adult || eqb (Z e) 0

@@ -3,7 +3,8 @@
 -- No room is judged by these any more. They say what "must come out unchanged" means of an exposure, at the end.
 use Rattle.std.specs.Prelude.{ℕ, ◌+◌, ◌*◌, ◌≡◌, Bool, ◌||◌, ltb, eqb}
 use Rattle.exposure.specs.Totals.{share, X, Y}
-use Rattle.exposure.specs.Exposure.{max_days, max_years, max_breathing, group, residential, worker, exposure_out_of_range}
+use Rattle.exposure.specs.Exposure.{max_days, max_years, max_breathing, group}
+use Rattle.exposure.specs.Exposure.{residential, worker, exposure_out_of_range}
 use Rattle.exposure.specs.declared.groups.Group.{Group}
 use Rattle.exposure.specs.declared.groups.Exposure.{Exposure}
 use Rattle.exposure.specs.declared.kind.Kind.{Kind}
@@ -58,7 +59,8 @@ hours_worker = record { child = hours_group 0 0 0 0; adult = hours_group 250 25 
 
 -- 6. A group has EF over 366, ED over 100, ET over 24 or IRA over 100, or Z is 0.
 abbrev pub hours_group_out_of_range : HoursGroup → Bool
-hours_group_out_of_range g = ltb max_days g.days || ltb max_years g.years || ltb 24 g.hours || ltb max_breathing g.breathing
+hours_group_out_of_range g =
+    ltb max_days g.days || ltb max_years g.years || ltb 24 g.hours || ltb max_breathing g.breathing
 
 abbrev pub hours_out_of_range : HoursExposure → Bool
 hours_out_of_range e = hours_group_out_of_range e.child || hours_group_out_of_range e.adult || eqb (hours_z e) 0

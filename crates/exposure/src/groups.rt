@@ -1,7 +1,8 @@
 // Who is in the room, and for how long: the two groups, their limits and the defaults.
 ghost use Rattle.std.specs.Prelude.{◌≡◌};
 ghost use Rattle.exposure.specs.Totals.{Z};
-ghost use Rattle.exposure.specs.Exposure.{group_out_of_range, exposure_out_of_range, exposure_answer, residential, worker};
+ghost use Rattle.exposure.specs.Exposure.{group_out_of_range, exposure_out_of_range};
+ghost use Rattle.exposure.specs.Exposure.{exposure_answer, residential, worker};
 
 use crate::accepted::AcceptedExposure;
 use refusals::Refusal;

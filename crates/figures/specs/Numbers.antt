@@ -19,8 +19,8 @@ figures_of figures count =
       count = count;
     }
 
--- The answer to a job where the list that is lent has so many places: after the job's own grounds, 19, the list is shorter
--- than n.
+-- The answer to a job where the list that is lent has so many places:
+-- after the job's own grounds, 19, the list is shorter than n.
 abbrev pub lent : Result Answer Refusal → ℕ → Result Answer Refusal
 lent (Ok answer) places = cond (ltb places answer.count) (Err Refusal.ListTooShort) (Ok answer)
 lent (Err refusal) places = Err refusal
@@ -30,7 +30,8 @@ abbrev pub count_answered : Result Answer Refusal → Result ℕ Refusal
 count_answered (Ok answer) = Ok answer.count
 count_answered (Err refusal) = Err refusal
 
--- The figures are then the answer's, and the first n places of the list hold its factors; a refusal leaves both as they were.
+-- The figures are then the answer's, and the first n places of the list hold its factors;
+-- a refusal leaves both as they were.
 abbrev pub figures_left : Result Answer Refusal → FigureNumbers → FigureNumbers
 figures_left (Ok answer) figures = figures_of answer.figures answer.count
 figures_left (Err refusal) figures = figures

@@ -11,12 +11,13 @@ use Rattle.verdict.specs.declared.verdict.Verdict.{Verdict}
 use Rattle.verdict.specs.declared.working.WorkingLevels.{WorkingLevels}
 use Rattle.figures.specs.declared.FigureNumbers.{FigureNumbers}
 
--- The verdict's number is that of a verdict that the exact balance bears out; the working levels' numbers are those of levels that
--- keep their promise.
+-- The verdict's number is that of a verdict that the exact balance bears out; the working levels' numbers are those of
+-- levels that keep their promise.
 pub record NumbersTold (job : List ℕ) (figures : FigureNumbers) : Type 0 where
   pub given : Verdict
   pub verdict : figures.verdict ≡ verdict_order given
-  pub told : VerdictPromise (criterion_of job) (book_of job) (coefficient (book_of job)) (rate job) figures.concentration given
+  pub told :
+      VerdictPromise (criterion_of job) (book_of job) (coefficient (book_of job)) (rate job) figures.concentration given
   pub levels : Option WorkingLevels
   pub equilibrium : figures.equilibrium ≡ equilibrium_number levels
   pub working : figures.working ≡ micro_number levels

@@ -13,8 +13,8 @@ use screening::{Figures, screen_job};
 // What stands for a figure that is not there.
 pub const NO_FIGURE: u64 = u64::MAX;
 
-// A job's figures, a number each: the verdict's is 1 for 'below', 2 for 'close' and 3 for 'above', and a figure that is not
-// there is `NO_FIGURE`. A caller in C lends a struct of the same fields.
+// A job's figures, a number each: the verdict's is 1 for 'below', 2 for 'close' and 3 for 'above', and a figure that is
+// not there is `NO_FIGURE`. A caller in C lends a struct of the same fields.
 #[repr(C)]
 #[derive(Clone, Copy)]
 pub struct FigureNumbers {

@@ -1,5 +1,5 @@
--- The number that a caller in another language gets: that of the call's own answer, the answer itself where it is not negative, and
--- minus the number of the refusal otherwise.
+-- The number that a caller in another language gets: that of the call's own answer, the answer itself where it is not
+-- negative, and minus the number of the refusal otherwise.
 use Rattle.refusals.specs.Grounds.{answer_number}
 use Rattle.std.specs.Prelude.{ℕ, ◌+◌, ◌*◌, ◌≡◌, List, ℤ, pos}
 use Rattle.std.specs.Option.{ok_or}
@@ -19,8 +19,8 @@ use Rattle.tables.specs.Answers.{table_answer}
 abbrev pub factors_number : ℕ → List ℕ → ℕ → ℤ
 factors_number v book capacity = answer_number (factor_answer v book capacity)
 
--- What the report call answers for a job and so many places: the length of the report, which is one line where the job is
--- refused. It is refused with 21 where the report is longer than the buffer.
+-- What the report call answers for a job and so many places: the length of the report, which is one line where the job
+-- is refused. It is refused with 21 where the report is longer than the buffer.
 abbrev pub report_number : List ℕ → ℕ → ℤ
 report_number job capacity = answer_number (ok_or (length_written (report_of job) capacity) BufferTooShort)
 

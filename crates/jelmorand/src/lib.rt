@@ -63,8 +63,8 @@ pub extern "C" fn jelmorand_factors(v: u32, book: &[u8], out: &mut [u64]) -> i64
     number_of(balance::factors(v, book, out))
 }
 
-// The report of a job, to the start of `out`, and its length; where there is no room for all of it that is refused, with
-// `out` as it was. A job that is refused has a report.
+// The report of a job, to the start of `out`, and its length; where there is no room for all of it that is refused,
+// with `out` as it was. A job that is refused has a report.
 #[unsafe(no_mangle)]
 pub extern "C" fn jelmorand_report(job: &[u8], out: &mut [u8]) -> i64
     ensures answered { result ≡ report_number job.now (length out.old) }

@@ -7,7 +7,8 @@ use lib.ListN.{set, drop, replicate}
 use Rattle.balance.specs.Balance.{G}
 use Rattle.minutes.specs.Minutes.{start}
 
-pub begun : (count : ℕ) (list : List ℕ) → 1 ≤ count → set (replicate count 0 ++ drop count list) 0 G ≡ start (count - 1) ++ drop count list
+pub begun : (count : ℕ) (list : List ℕ) → 1 ≤ count →
+    set (replicate count 0 ++ drop count list) 0 G ≡ start (count - 1) ++ drop count list
 begun zero list some = absurd (omega arith)
 begun (suc n) list some =
     let e : suc n - 1 ≡ n = omega arith in

@@ -17,13 +17,15 @@ use Rattle.numbers.proofs.NoneMet.{none_below}
 use Rattle.book.specs.Rates.{max_rate, rates_at}
 use Rattle.balance.specs.Chain.{chain_of}
 use Rattle.minutes.specs.Minutes.{rate_of}
-use Rattle.minutes.specs.Periods.{period_count, period_rate_too_high, periods_out_of_range, periods_grounds, factors_after}
+use Rattle.minutes.specs.Periods.{period_count, period_rate_too_high}
+use Rattle.minutes.specs.Periods.{periods_out_of_range, periods_grounds, factors_after}
 use Rattle.minutes.specs.Private.Holding.{RatesWithin}
 use Rattle.minutes.proofs.Periods.{periods_length}
 use Rattle.minutes.proofs.Holding.{members_are}
 
 pub periods_pass :
-    (periods book : List ℕ) (capacity : ℕ) → first_met (periods_grounds periods book capacity) ≡ Ok tt → RatesWithin periods × Accepted book
+    (periods book : List ℕ) (capacity : ℕ) → first_met (periods_grounds periods book capacity) ≡ Ok tt →
+    RatesWithin periods × Accepted book
 unfolding period_rate_too_high
 periods_pass periods book capacity passed =
     let short = ground_of ListTooShort (ltb capacity (members book)) ∷ [] in
@@ -32,9 +34,11 @@ periods_pass periods book capacity passed =
       λ p l.
           ltb-false max_rate (rate_of periods p)
           (none_below ((length periods + 1) / 2) (λ k. ltb max_rate (rate_of periods k)) rated.0 p (omega arith)),
-      (both_pass (first_met (book_grounds book)) (first_met short) (sym (first_of_both (book_grounds book) short) ∙ ranged.1)).0,
+      (both_pass (first_met (book_grounds book)) (first_met short)
+          (sym (first_of_both (book_grounds book) short) ∙ ranged.1)).0,
     )
 
 pub factors_after_length : (periods book : List ℕ) → Accepted book → length (factors_after periods book) ≡ members book
 factors_after_length periods book accepted =
-    periods_length (scale_of book) (chain_of book) (rates_at book) (members book - 1) periods (period_count periods) ∙ members_are book accepted
+    periods_length (scale_of book) (chain_of book) (rates_at book) (members book - 1) periods (period_count periods)
+    ∙ members_are book accepted

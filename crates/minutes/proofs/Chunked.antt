@@ -1,4 +1,5 @@
--- `any` over the chunks of a list, as over any run of n items: where it answers q k of item k, it answers `some_below` of q.
+-- `any` over the chunks of a list, as over any run of n items:
+-- where it answers q k of item k, it answers `some_below` of q.
 use Prim.Native.Nat.{ℕ, zero, suc, ◌<◌}
 use native.Mathlib.Omega.{arith}
 use mathlib.Core.Logic.{inl, inr}
@@ -13,11 +14,13 @@ use Rattle.std.proofs.lemmas.Option.{slice_get_cases}
 use Rattle.numbers.specs.Tests.{some_below}
 use Rattle.numbers.proofs.Tested.{passes_at, none_passes}
 
-module _ {S A F : Type 0} {steps : S → Option A → S → Type 0} {g : Mut F (A × Unit {0}) Bool} {f : F} (p : Run steps) (n : ℕ) (q : ℕ → Bool) where
+module _ {S A F : Type 0} {steps : S → Option A → S → Type 0} {g : Mut F (A × Unit {0}) Bool} {f : F} (p : Run steps)
+    (n : ℕ) (q : ℕ → Bool) where
   pub some_of_run :
       CallKeepsClosure g f → (p.whole ≡ true → p.len ≡ n) →
       ((k : ℕ) → IfSome (p.at k) (λ x. (k < n) × ((b : Bool) → Called g f (x, tt) b f → b ≡ q k))) →
-      (r : Bool) → MatchBool r (AnyItemGives p g f true) (IsTrue p.whole × AllItemsGive p g f false) → r ≡ some_below n q
+      (r : Bool) → MatchBool r (AnyItemGives p g f true) (IsTrue p.whole × AllItemsGive p g f false) →
+      r ≡ some_below n q
   some_of_run keeps whole says true met =
       let item = met keeps in
       at_item item.0 (p.at item.0) (says item.0) item.2
@@ -35,6 +38,7 @@ module _ {S A F : Type 0} {steps : S → Option A → S → Type 0} {g : Mut F (
       ])))
     where
       at_each : (k : ℕ) (o : Option A) {x : A} → option_map (λ y. y) o ≡ Some x →
-          IfSome o (λ x. (k < n) × ((b : Bool) → Called g f (x, tt) b f → b ≡ q k)) → IfSome o (λ x. Called g f (x, tt) false f) → false ≡ q k
+          IfSome o (λ x. (k < n) × ((b : Bool) → Called g f (x, tt) b f → b ≡ q k)) →
+          IfSome o (λ x. Called g f (x, tt) false f) → false ≡ q k
       at_each k None e says h = cc
       at_each k (Some x) e says h = says.1 false h

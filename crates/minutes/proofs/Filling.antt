@@ -1,5 +1,5 @@
--- A minute in the lent list itself: below the next member's place stand this minute's factors, and from it on the old ones.
--- None passes the exact steady factor at rate 0, which is at most 1, so no inflow is too large for a word.
+-- A minute in the lent list itself: below the next member's place stand this minute's factors, and from it on the old
+-- ones. None passes the exact steady factor at rate 0, which is at most 1, so no inflow is too large for a word.
 use Prim.Native.Nat.{ℕ, zero, suc, ◌+◌, ◌-◌, ◌*◌, ◌/◌, ◌≤◌, ◌<◌}
 use native.Mathlib.Nat.{le_of_mul-le-mul_left}
 use native.Mathlib.Omega.{arith}
@@ -32,12 +32,14 @@ use Rattle.minutes.proofs.Holding.{members_are, last_counts, unaired}
 
 -- The inflow of factors that are below exact ones.
 inflow_at_most :
-    {scale : ℕ} {chain : Chain} {rate x : ℕ → ℕ} {P : ℕ} (last : ℕ) (new : ℕ → ℕ) → 0 < scale → 0 < P → (sound : Sound scale chain) →
-    ExactFactors scale chain rate last P x → ((j : ℕ) → j ≤ last → P * new j ≤ G * x j) →
+    {scale : ℕ} {chain : Chain} {rate x : ℕ → ℕ} {P : ℕ} (last : ℕ) (new : ℕ → ℕ) → 0 < scale → 0 < P →
+    (sound : Sound scale chain) → ExactFactors scale chain rate last P x → ((j : ℕ) → j ≤ last → P * new j ≤ G * x j) →
     (k : ℕ) → suc k < chain.count → k ≤ last → inflow_of new (chain.feeds (suc k)) ≤ scale * G
 inflow_at_most {scale} {chain} {rate} {x} {P} last new pos pos_p sound exact below k l le =
-    let cut : ExactFactors scale chain rate k P x = record { parent = exact.parent; later = λ j h. exact.later j (omega arith) } in
-    let flows = inflow_order P G new x (suc k) (chain.feeds (suc k)) (sound.from_lower (suc k) l) (λ j m. below j (omega arith)) in
+    let cut : ExactFactors scale chain rate k P x =
+    record { parent = exact.parent; later = λ j h. exact.later j (omega arith) } in
+    let flows =
+    inflow_order P G new x (suc k) (chain.feeds (suc k)) (sound.from_lower (suc k) l) (λ j m. below j (omega arith)) in
     let most = exact_inflow pos sound k (omega arith) cut l in
     le_of_mul-le-mul_left {k = P} (omega arith) pos_p
 
@@ -57,13 +59,16 @@ module _ {book old : List ℕ} (holds : Holds book old) (v : ℕ) where
       let here = last_counts book holds.accepted in
       let exact = unaired book holds.accepted in
       let aged = renewed_ages (scale_of book) (chain_of book) (rates_at book v) sound last here old in
-      let below = aged_stays_below (scale_positive book) sound last here (λ k. rates_rise book 0 v k (omega arith)) exact aged holds.below in
+      let below =
+      aged_stays_below (scale_positive book) sound last here
+      (λ k. rates_rise book 0 v k (omega arith)) exact aged holds.below in
       let part = renewing (scale_of book) (chain_of book) (rates_at book v) old in
       let positive = denominator_pos (scale_of book) (chain_of book) (rates_at book 0) (scale_positive book) last in
       rw (inflow_filled (chain_of book) part sound i l filling, made_inflow (chain_of book) part sound i l)
       (inflow_at_most last new (scale_positive book) positive sound exact below i l (omega arith))
 
-  pub minute_fed : (i : ℕ) {now : List ℕ} → 1 ≤ i → i < members book → Filled new old (members book) i now → Fed book i now
+  pub minute_fed : (i : ℕ) {now : List ℕ} → 1 ≤ i → i < members book → Filled new old (members book) i now →
+      Fed book i now
   minute_fed i later l filling =
       record {
         member = l;
@@ -73,12 +78,14 @@ module _ {book old : List ℕ} (holds : Holds book old) (v : ℕ) where
 
   -- The new factor, worked out from what the code has, fills the next place.
   pub renewed_filled :
-      (i : ℕ) {now : List ℕ} {summed scale life factor : ℕ} → 1 ≤ i → i < members book → Filled new old (members book) i now →
-      summed ≡ inflow now ((chain_of book).feeds i) → scale ≡ scale_of book → life ≡ half_life book i →
+      (i : ℕ) {now : List ℕ} {summed scale life factor : ℕ} →
+      1 ≤ i → i < members book → Filled new old (members book) i now → summed ≡ inflow now ((chain_of book).feeds i) →
+      scale ≡ scale_of book → life ≡ half_life book i →
       factor ≡ (once_a_minute * life * get_or now i 0 + K * (summed / scale)) / (K + (once_a_minute + v) * life) →
       Filled new old (members book) (i + 1) (set now i factor)
   renewed_filled i later l filling sums scaled lives made =
-      next_filled (chain_of book) (renewing (scale_of book) (chain_of book) (rates_at book v) old) sound i later l l filling
+      next_filled (chain_of book) (renewing (scale_of book) (chain_of book) (rates_at book v) old) sound i
+      later l l filling
       (rw (sums, scaled, lives, filled_ahead 0 filling l, rate_is book v i) at made)
 
   -- The parent's place holds G already.
@@ -88,10 +95,12 @@ module _ {book old : List ℕ} (holds : Holds book old) (v : ℕ) where
   pub held_filled : Filled new old (members book) 1 old
   held_filled =
       let some : 1 ≤ members book = omega (arith, members_are book holds.accepted) in
-      rw held at (parent_filled (chain_of book) (renewing (scale_of book) (chain_of book) (rates_at book v) old) old some holds.enough)
+      rw held at (parent_filled (chain_of book) (renewing (scale_of book) (chain_of book) (rates_at book v) old) old
+      some holds.enough)
 
   pub minute_filled : filled (members book) new old ≡ minute_at book v old ++ drop (members book) old
   unfolding minute
   minute_filled =
       let some : 1 ≤ members book = omega (arith, members_are book holds.accepted) in
-      rw held at (filled_in_order (chain_of book) (renewing (scale_of book) (chain_of book) (rates_at book v) old) (members book) old some)
+      rw held at (filled_in_order (chain_of book) (renewing (scale_of book) (chain_of book) (rates_at book v) old)
+      (members book) old some)

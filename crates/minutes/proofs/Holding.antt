@@ -1,5 +1,6 @@
--- A lent list that holds the factors of an accepted book's members keeps doing so minute by minute: the parent is held, and no factor passes the
--- exact steady one at rate 0. These are the invariants of the loops over the minutes and over the periods.
+-- A lent list that holds the factors of an accepted book's members keeps doing so minute
+-- by minute: the parent is held, and no factor passes the exact steady one at rate 0.
+-- These are the invariants of the loops over the minutes and over the periods.
 use Prim.Native.Nat.{ℕ, suc, ◌+◌, ◌-◌, ◌≤◌, ◌<◌}
 use native.Mathlib.Nat.{le_refl}
 use native.Mathlib.Numerals.{add-one}
@@ -45,8 +46,8 @@ module _ (book : List ℕ) (accepted : Accepted book) where
   unaired = exact_solves scale (chain_of book) (rates_at book 0) (accepted_sound book accepted) last last_counts
 
   front_holds :
-      (factors rest : List ℕ) → length factors ≡ members book → get_or factors 0 0 ≡ G → BelowUnaired book (λ i. get_or factors i 0) →
-      Holds book (factors ++ rest)
+      (factors rest : List ℕ) → length factors ≡ members book → get_or factors 0 0 ≡ G →
+      BelowUnaired book (λ i. get_or factors i 0) → Holds book (factors ++ rest)
   front_holds factors rest size first below =
       record {
         accepted = accepted;
@@ -63,14 +64,19 @@ pub record Reached (book list factors now : List ℕ) : Type 0 where
   pub content : now ≡ factors ++ drop (members book) list
 
 pub reached_start :
-    (book list rest : List ℕ) → Accepted book → list ≡ start (members book - 1) ++ rest → Reached book list (start (members book - 1)) list
+    (book list rest : List ℕ) → Accepted book → list ≡ start (members book - 1) ++ rest →
+    Reached book list (start (members book - 1)) list
 reached_start book list rest accepted begun =
     let exact = unaired book accepted in
-    let size : length (start (members book - 1)) ≡ members book = ap suc (length-replicate (members book - 1) 0) ∙ members_are book accepted in
+    let size : length (start (members book - 1)) ≡ members book =
+    ap suc (length-replicate (members book - 1) 0) ∙ members_are book accepted in
     let x : ℕ → ℕ = λ k. get_or (numerators (scale_of book) (chain_of book) (rates_at book 0) (members book - 1)) k 0 in
-    let below : BelowUnaired book (λ i. get_or (start (members book - 1)) i 0) = λ i le. start_below (members book - 1) _ x exact.parent i in
-    let holds : Holds book list = rw begun (front_holds book accepted (start (members book - 1)) rest size refl below) in
-    let dropped : drop (members book) list ≡ rest = rw begun (drop_at (start (members book - 1)) rest (members book) size) in
+    let below : BelowUnaired book (λ i. get_or (start (members book - 1)) i 0) =
+    λ i le. start_below (members book - 1) _ x exact.parent i in
+    let holds : Holds book list =
+    rw begun (front_holds book accepted (start (members book - 1)) rest size refl below) in
+    let dropped : drop (members book) list ≡ rest =
+    rw begun (drop_at (start (members book - 1)) rest (members book) size) in
     record {
       holds = holds;
       capacity = holds.enough;
@@ -100,17 +106,24 @@ module _ {book list factors now : List ℕ} (reached : Reached book list factors
   place : (i : ℕ) → i ≤ members book - 1 → get_or factors i 0 ≡ get_or now i 0
   place i le =
       let size = reached.size in
-      rw reached.content (sym (get_or-append factors (drop (members book) list) 0 i (omega (arith, members_are book accepted_here))))
+      rw reached.content
+      (sym (get_or-append factors (drop (members book) list) 0 i (omega (arith, members_are book accepted_here))))
 
   -- The factors of k minutes more, worked out in the list itself.
-  pub reached_minutes : (v k : ℕ) {after : List ℕ} → after ≡ minutes_at book v k (take (members book) now) ++ drop (members book) now →
+  pub reached_minutes : (v k : ℕ) {after : List ℕ} →
+      after ≡ minutes_at book v k (take (members book) now) ++ drop (members book) now →
       Reached book list (minutes_at book v k factors) after
   reached_minutes v k {after} passed =
       let last = members book - 1 in
       let size : length factors ≡ suc last = reached.size ∙ sym (members_are book accepted_here) in
-      let content : after ≡ minutes_at book v k factors ++ drop (members book) list = rw (reached_front, reached_rest) at passed in
-      let long = minutes_length (scale_of book) (chain_of book) (rates_at book v) last k factors size ∙ members_are book accepted_here in
-      let first = minutes_parent (scale_of book) (chain_of book) (rates_at book v) last k factors (place 0 (omega arith) ∙ reached.holds.parent) in
+      let content : after ≡ minutes_at book v k factors ++ drop (members book) list =
+      rw (reached_front, reached_rest) at passed in
+      let long =
+      minutes_length (scale_of book) (chain_of book) (rates_at book v) last k factors size
+      ∙ members_are book accepted_here in
+      let first =
+      minutes_parent (scale_of book) (chain_of book) (rates_at book v) last k factors
+      (place 0 (omega arith) ∙ reached.holds.parent) in
       let below : BelowUnaired book (λ i. get_or (minutes_at book v k factors) i 0) =
       minutes_below
       (scale_positive book)
@@ -126,7 +139,9 @@ module _ {book list factors now : List ℕ} (reached : Reached book list factors
       k
       in
       record {
-        holds = rw content (front_holds book accepted_here (minutes_at book v k factors) (drop (members book) list) long first below);
+        holds =
+            rw content
+            (front_holds book accepted_here (minutes_at book v k factors) (drop (members book) list) long first below);
         capacity = reached.capacity;
         size = long;
         content = content;
@@ -134,11 +149,14 @@ module _ {book list factors now : List ℕ} (reached : Reached book list factors
 
   -- And of one minute more.
   pub reached_minute :
-      (v : ℕ) {after : List ℕ} → after ≡ minute_at book v now ++ drop (members book) now → Reached book list (minute_at book v factors) after
+      (v : ℕ) {after : List ℕ} → after ≡ minute_at book v now ++ drop (members book) now →
+      Reached book list (minute_at book v factors) after
   unfolding minutes
   reached_minute v passed =
       let size : length factors ≡ suc (members book - 1) = reached.size ∙ sym (members_are book accepted_here) in
-      let front = minute_front (scale_of book) (chain_of book) (rates_at book v) (members book - 1) factors (drop (members book) list) size in
+      let front =
+      minute_front (scale_of book) (chain_of book) (rates_at book v) (members book - 1) factors
+      (drop (members book) list) size in
       let same : minute_at book v now ≡ minute_at book v (take (members book) now) =
       ap (minute_at book v) reached.content ∙ front ∙ ap (minute_at book v) (sym reached_front)
       in
@@ -152,7 +170,8 @@ module _ {book list : List ℕ} (v : ℕ) where
 
   pub minutes_more :
       (k : ℕ) {now after : List ℕ} → Reached book list (minutes_at book v k (take (members book) list)) now →
-      after ≡ minute_at book v now ++ drop (members book) now → Reached book list (minutes_at book v (k + 1) (take (members book) list)) after
+      after ≡ minute_at book v now ++ drop (members book) now →
+      Reached book list (minutes_at book v (k + 1) (take (members book) list)) after
   unfolding minutes
   minutes_more k reached passed = rw (add-one k) (reached_minute reached v passed)
 
@@ -176,10 +195,11 @@ module _ {book entry list : List ℕ} {count : ℕ} (begun : Begun book entry li
   periods_none periods = begun_reached
 
 pub periods_more :
-    {book list periods period : List ℕ} {p : ℕ} {rest : ChunksExact ℕ} {now later : List ℕ} → PairAt periods p period rest →
-    Reached book list (periods_at book periods p) now →
-    later ≡ minutes_at book (get_or period 0 0) (get_or period 1 0) (take (members book) now) ++ drop (members book) now →
+    {book list periods period : List ℕ} {p : ℕ} {rest : ChunksExact ℕ} {now later : List ℕ} →
+    PairAt periods p period rest → Reached book list (periods_at book periods p) now → later
+    ≡ minutes_at book (get_or period 0 0) (get_or period 1 0) (take (members book) now) ++ drop (members book) now →
     Reached book list (periods_at book periods (p + 1)) later
 unfolding after_periods
 periods_more {periods = periods} {p = p} pair reached passed =
-    rw (add-one p) (reached_minutes reached (rate_of periods p) (minutes_of periods p) (rw (pair.first, pair.second) at passed))
+    rw (add-one p)
+    (reached_minutes reached (rate_of periods p) (minutes_of periods p) (rw (pair.first, pair.second) at passed))

@@ -1,4 +1,5 @@
--- A minute's list is made in member order: what is made solves the minute's equations, and reads of the old list only the members' own places.
+-- A minute's list is made in member order: what is made solves the minute's equations,
+-- and reads of the old list only the members' own places.
 use Prim.Native.Nat.{ℕ, suc, ◌≤◌, ◌<◌}
 use native.Mathlib.Omega.{arith}
 use mathlib.Core.Path.{◌≡◌, ap}
@@ -19,7 +20,8 @@ module _ (scale : ℕ) (chain : Chain) (rate : ℕ → ℕ) where
   renewed old = made chain (renewing old)
 
   pub renewed_ages :
-      Sound scale chain → (last : ℕ) → last < chain.count → (old : List ℕ) → Aged scale chain rate last (λ k. get_or old k 0) (renewed old)
+      Sound scale chain → (last : ℕ) → last < chain.count → (old : List ℕ) →
+      Aged scale chain rate last (λ k. get_or old k 0) (renewed old)
   renewed_ages sound last l old =
       record {
         parent = made_parent chain (renewing old);
@@ -27,7 +29,8 @@ module _ (scale : ℕ) (chain : Chain) (rate : ℕ → ℕ) where
       }
 
   module _ (last : ℕ) where
-    pub minute_is_renewed : (old : List ℕ) (k : ℕ) → k ≤ last → get_or (minute scale chain rate last old) k 0 ≡ renewed old k
+    pub minute_is_renewed : (old : List ℕ) (k : ℕ) → k ≤ last →
+        get_or (minute scale chain rate last old) k 0 ≡ renewed old k
     unfolding minute
     minute_is_renewed old = made_at chain (renewing old) last
 
@@ -36,7 +39,8 @@ module _ (scale : ℕ) (chain : Chain) (rate : ℕ → ℕ) where
     minute_length old = made_length chain (renewing old) last
 
     -- What stands past the members' places is not read.
-    pub minute_front : (old rest : List ℕ) → length old ≡ suc last → minute scale chain rate last (old ++ rest) ≡ minute scale chain rate last old
+    pub minute_front : (old rest : List ℕ) → length old ≡ suc last →
+        minute scale chain rate last (old ++ rest) ≡ minute scale chain rate last old
     unfolding minute
     minute_front old rest size =
         made_alike

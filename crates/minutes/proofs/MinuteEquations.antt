@@ -1,5 +1,6 @@
--- A minute as equations over a number for each member, and two laws of it along the chain: what begins higher ends higher, and what begins
--- below the exact steady factors stays below them, also where the minute is at higher rates than theirs.
+-- A minute as equations over a number for each member, and two laws of it along the chain:
+-- what begins higher ends higher, and what begins below the exact steady factors stays
+-- below them, also where the minute is at higher rates than theirs.
 use Prim.Native.Nat.{ℕ, suc, ◌*◌, ◌≤◌, ◌<◌}
 use native.Mathlib.Nat.{le_of_suc-le-suc, mul-le-mul_right}
 use native.Mathlib.Omega.{arith}
@@ -34,7 +35,9 @@ module _ {scale : ℕ} {chain : Chain} (pos : 0 < scale) (sound : Sound scale ch
       passes : (k : ℕ) → k < i → ((j : ℕ) → j ≤ k → new j ≤ newer j) → new (suc k) ≤ newer (suc k)
       passes k h earlier =
           let below = sound.from_lower (suc k) (omega arith) in
-          let inflows = inflow_order 1 1 new newer (suc k) (chain.feeds (suc k)) below (λ j m. omega (arith, earlier j (omega arith))) in
+          let inflows =
+          inflow_order 1 1 new newer (suc k) (chain.feeds (suc k)) below
+          (λ j m. omega (arith, earlier j (omega arith))) in
           rw (aged.later k h, aged_more.later k h)
           (step_rises scale _ K _ (old (suc k)) (older (suc k)) _ _ pos (omega arith) (begins (suc k) h) (omega arith))
 
@@ -57,8 +60,10 @@ module _ {scale : ℕ} {chain : Chain} (pos : 0 < scale) (sound : Sound scale ch
       passes : (k : ℕ) → k < i → ((j : ℕ) → j ≤ k → P * new j ≤ G * x j) → P * new (suc k) ≤ G * x (suc k)
       passes k h earlier =
           let below = sound.from_lower (suc k) (omega arith) in
-          let inflows = inflow_order P G new x (suc k) (chain.feeds (suc k)) below (λ j m. earlier j (le_of_suc-le-suc m)) in
+          let inflows =
+          inflow_order P G new x (suc k) (chain.feeds (suc k)) below (λ j m. earlier j (le_of_suc-le-suc m)) in
           let T = chain.half_life (suc k) in
           let removed = mul-le-mul_right T (rises (suc k)) in
           rw (aged.later k h)
-          (step_below scale _ _ _ K P G (x (suc k)) (old (suc k)) _ _ pos (omega arith) (omega arith) (exact.later k h) (begins (suc k) h) inflows)
+          (step_below scale _ _ _ K P G (x (suc k)) (old (suc k)) _ _ pos (omega arith) (omega arith) (exact.later k h)
+          (begins (suc k) h) inflows)

@@ -25,17 +25,19 @@ pub record PairAt (numbers : List ℕ) (k : ℕ) (pair : List ℕ) (rest : Chunk
   pub ahead : Ahead numbers (k + 1) rest
 
 pub pair_at :
-    {numbers : List ℕ} {k : ℕ} {rest : ChunksExact ℕ} (pair : Bor (List ℕ)) (later : ChunksExact ℕ) → Ahead numbers k rest →
-    chunks_exact_steps rest (Some pair) later → PairAt numbers k pair.now later
+    {numbers : List ℕ} {k : ℕ} {rest : ChunksExact ℕ} (pair : Bor (List ℕ)) (later : ChunksExact ℕ) →
+    Ahead numbers k rest → chunks_exact_steps rest (Some pair) later → PairAt numbers k pair.now later
 pair_at {numbers} {k} pair later now turn =
     let two : length pair.now ≡ 2 = turn.1.1 ∙ now.pairs in
     let here : drop (2 * k) numbers ≡ pair.now ++ chunks_exact_rest later = sym now.left ∙ turn.1.0 in
     let item : (j : ℕ) → j < 2 → get_or pair.now j 0 ≡ get_or numbers (2 * k + j) 0 =
-    λ j l. sym (get_or-append pair.now _ 0 j (omega arith)) ∙ ap (λ xs. get_or xs j 0) (sym here) ∙ get_or-drop (2 * k) numbers j 0
+    λ j l. sym (get_or-append pair.now _ 0 j (omega arith)) ∙ ap (λ xs. get_or xs j 0) (sym here)
+    ∙ get_or-drop (2 * k) numbers j 0
     in
     let next : 2 * (k + 1) ≡ 2 * k + 2 = omega arith in
     record {
-      within = omega (arith, ap length here, length-append pair.now (chunks_exact_rest later), length-drop (2 * k) numbers);
+      within =
+          omega (arith, ap length here, length-append pair.now (chunks_exact_rest later), length-drop (2 * k) numbers);
       first = item 0 (omega arith) ∙ ap (λ j. get_or numbers j 0) (add-zero (2 * k));
       second = item 1 (omega arith);
       ahead =

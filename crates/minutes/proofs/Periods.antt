@@ -1,4 +1,5 @@
--- Periods one after the other: one factor for each member, none above the exact steady one at rates that no period goes below.
+-- Periods one after the other: one factor for each member,
+-- none above the exact steady one at rates that no period goes below.
 use Prim.Native.Nat.{ℕ, zero, suc, ◌*◌, ◌≤◌, ◌<◌}
 use native.Mathlib.Omega.{arith}
 use mathlib.Core.Path.{◌≡◌, refl, ap}
@@ -16,12 +17,14 @@ module _ (scale : ℕ) (chain : Chain) (rates : ℕ → ℕ → ℕ) (last : ℕ
   pub periods_length : (n : ℕ) → length (after_periods scale chain rates last periods n) ≡ suc last
   unfolding after_periods
   periods_length zero = ap suc (length-replicate last 0)
-  periods_length (suc n) = minutes_length scale chain (rates (rate_of periods n)) last (minutes_of periods n) _ (periods_length n)
+  periods_length (suc n) =
+      minutes_length scale chain (rates (rate_of periods n)) last (minutes_of periods n) _ (periods_length n)
 
   -- Periods at one rate are their minutes together.
   pub periods_at_one_rate :
       (v n : ℕ) → ((p : ℕ) → p < n → rate_of periods p ≡ v) →
-      after_periods scale chain rates last periods n ≡ minutes scale chain (rates v) last (sum_below n (minutes_of periods)) (start last)
+      after_periods scale chain rates last periods n
+      ≡ minutes scale chain (rates v) last (sum_below n (minutes_of periods)) (start last)
   unfolding after_periods minutes sum_below
   periods_at_one_rate v zero same = refl
   periods_at_one_rate v (suc n) same =

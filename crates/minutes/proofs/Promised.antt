@@ -1,5 +1,5 @@
--- What R-5 promises: of the definitions by the laws of the minutes, since an accepted book means a sound chain; of a call because place i of its
--- list holds member i's factor.
+-- What R-5 promises: of the definitions by the laws of the minutes, since an accepted book means a sound chain; of a
+-- call because place i of its list holds member i's factor.
 use Rattle.refusals.specs.declared.Refusal.{Refusal}
 use Prim.Native.Nat.{ℕ, ◌-◌, ◌≤◌, ◌<◌}
 use native.Mathlib.Nat.{le_refl, le_of_mul-le-mul_left, mul-le-mul_right}
@@ -24,7 +24,8 @@ use Rattle.std.specs.Prelude.{pos, Result, Ok}
 use Rattle.balance.proofs.AnyChain.SoundFactors.{factor_promise}
 use Rattle.minutes.specs.Minutes.{start, minutes, rate_of}
 use Rattle.minutes.specs.Periods.{period_count, periods_grounds, factors_after, periods_answer, periods_list}
-use Rattle.minutes.specs.Promises.{NotAboveSteady, MinutePromise, PeriodsPromise, AtOneRate, all_minutes, PeriodsPromises}
+use Rattle.minutes.specs.Promises.{NotAboveSteady, MinutePromise, PeriodsPromise}
+use Rattle.minutes.specs.Promises.{AtOneRate, all_minutes, PeriodsPromises}
 use Rattle.minutes.proofs.Repeated.{minutes_order, minute_promise}
 use Rattle.minutes.proofs.Periods.{periods_at_one_rate, periods_below}
 use Rattle.minutes.proofs.Holding.{members_are, last_counts}
@@ -35,10 +36,12 @@ pub at_a_rate :
     MinutePromise (scale_of book) (chain_of book) (rates_at book v) (members book - 1) k i
 at_a_rate book v k i accepted l =
     let within : i ≤ members book - 1 = omega (arith, members_are book accepted) in
-    minute_promise (scale_positive book) (accepted_sound book accepted) (members book - 1) (last_counts book accepted) (rates_at book v) k i within
+    minute_promise (scale_positive book) (accepted_sound book accepted) (members book - 1) (last_counts book accepted)
+    (rates_at book v) k i within
 
 not_above :
-    (periods book : List ℕ) (v i : ℕ) → Accepted book → ((p : ℕ) → p < period_count periods → v ≤ rate_of periods p) → i < members book →
+    (periods book : List ℕ) (v i : ℕ) →
+    Accepted book → ((p : ℕ) → p < period_count periods → v ≤ rate_of periods p) → i < members book →
     NotAboveSteady (scale_of book) (chain_of book) (rates_at book v) i (get_or (factors_after periods book) i 0)
 not_above periods book v i accepted lowest l =
     let sound = accepted_sound book accepted in
@@ -49,11 +52,15 @@ not_above periods book v i accepted lowest l =
     let exact : ExactFactors (scale_of book) (chain_of book) (rates_at book v) i P x =
     exact_solves (scale_of book) (chain_of book) (rates_at book v) sound i l
     in
-    let all = periods_below (scale_of book) (chain_of book) (rates_at book) last periods (scale_positive book) sound (last_counts book accepted) i within exact in
-    let below = all (period_count periods) (λ p h k. rates_rise book v (rate_of periods p) k (lowest p h)) i (le_refl i) in
+    let all =
+    periods_below (scale_of book) (chain_of book) (rates_at book) last periods (scale_positive book) sound
+    (last_counts book accepted) i within exact in
+    let below =
+    all (period_count periods) (λ p h k. rates_rise book v (rate_of periods p) k (lowest p h)) i (le_refl i) in
     omega arith
 
-module _ (periods book list : List ℕ) {n : ℕ} (answered : answer_number (periods_answer periods book (length list)) ≡ pos n) where
+module _ (periods book list : List ℕ) {n : ℕ}
+    (answered : answer_number (periods_answer periods book (length list)) ≡ pos n) where
   passed : (first_met (periods_grounds periods book (length list)) ≡ Ok tt) × (members book ≡ n)
   passed = filled_passed (first_met (periods_grounds periods book (length list))) (members book) n answered
 
@@ -63,21 +70,25 @@ module _ (periods book list : List ℕ) {n : ℕ} (answered : answer_number (per
   pub periods_count : members book ≡ n
   periods_count = passed.1
 
-  periods_place : (i : ℕ) → i < n → get_or (periods_list periods book list) i 0 ≡ get_or (factors_after periods book) i 0
+  periods_place : (i : ℕ) → i < n →
+      get_or (periods_list periods book list) i 0 ≡ get_or (factors_after periods book) i 0
   periods_place i l =
       let count = passed.1 in
-      place_holds (factors_after periods book) list passed.0 i (omega (arith, factors_after_length periods book periods_accepted))
+      place_holds (factors_after periods book) list passed.0 i
+      (omega (arith, factors_after_length periods book periods_accepted))
 
   within : (i : ℕ) → i < n → i < members book
   within i l = let count = passed.1 in omega arith
 
 pub list_promise :
-    (periods book list : List ℕ) → PeriodsPromise periods book (periods_answer periods book (length list)) (periods_list periods book list)
+    (periods book list : List ℕ) →
+    PeriodsPromise periods book (periods_answer periods book (length list)) (periods_list periods book list)
 list_promise periods book list v n i lowest answered l =
     subst
     (NotAboveSteady (scale_of book) (chain_of book) (rates_at book v) i)
     (sym (periods_place periods book list answered i l))
-    (not_above periods book v i (periods_accepted periods book list answered) lowest (within periods book list answered i l))
+    (not_above periods book v i (periods_accepted periods book list answered) lowest
+    (within periods book list answered i l))
 
 -- At rate 0 the exact steady factor is at most 1, and no rate is lower.
 none_above_parent :
@@ -97,15 +108,18 @@ none_above_parent periods book list n i answered l =
 -- What a call keeps that answers and leaves the list as defined.
 pub kept :
     (periods book list : List ℕ) {answer : Result ℕ Refusal} {now : List ℕ} →
-    answer ≡ periods_answer periods book (length list) → now ≡ periods_list periods book list → PeriodsPromise periods book answer now
+    answer ≡ periods_answer periods book (length list) → now ≡ periods_list periods book list →
+    PeriodsPromise periods book answer now
 kept periods book list answered left = rw (answered, left) (list_promise periods book list)
 
 -- At one rate the factors are those of all the minutes together.
 one_rate : (v : ℕ) (periods book : List ℕ) → AtOneRate v periods →
     factors_after periods book
-    ≡ minutes (scale_of book) (chain_of book) (rates_at book v) (members book - 1) (all_minutes periods) (start (members book - 1))
+    ≡ minutes (scale_of book) (chain_of book) (rates_at book v) (members book - 1) (all_minutes periods)
+    (start (members book - 1))
 one_rate v periods book same =
-    periods_at_one_rate (scale_of book) (chain_of book) (rates_at book) (members book - 1) periods v (period_count periods) same
+    periods_at_one_rate (scale_of book) (chain_of book) (rates_at book) (members book - 1) periods v
+    (period_count periods) same
 
 pub periods_promises : PeriodsPromises
 periods_promises =
@@ -126,5 +140,6 @@ periods_promises =
             one_rate v periods book same,
             one_rate v longer book also,
           )
-          (minutes_order (scale_positive book) (accepted_sound book accepted) last (last_counts book accepted) (rates_at book v) _ _ i more here);
+          (minutes_order (scale_positive book) (accepted_sound book accepted) last (last_counts book accepted)
+          (rates_at book v) _ _ i more here);
     }

@@ -1,5 +1,6 @@
--- Minutes one after the other, of any scale and rates. The first minute of a shut room leaves no factor lower than it was, and a minute keeps the
--- order of two lists; so at one rate no minute does. And each minute keeps every factor below the exact steady one.
+-- Minutes one after the other, of any scale and rates. The first minute of a shut room leaves no
+-- factor lower than it was, and a minute keeps the order of two lists; so at one rate no minute does.
+-- And each minute keeps every factor below the exact steady one.
 use Prim.Native.Nat.{ℕ, zero, suc, ◌+◌, ◌*◌, ◌≤◌, ◌<◌}
 use native.Mathlib.Nat.{le_refl, le_trans, add-zero, add-suc}
 use native.Mathlib.Decide.{le_ind}
@@ -28,22 +29,30 @@ pub start_below : (last P : ℕ) (x : ℕ → ℕ) → x 0 ≡ P → (k : ℕ) �
 start_below last P x parent zero = omega (arith, ap (λ t. G * t) parent)
 start_below last P x parent (suc k) = rw (zeros last k) (omega arith)
 
-module _ {scale : ℕ} {chain : Chain} (pos : 0 < scale) (sound : Sound scale chain) (last : ℕ) (l : last < chain.count) where
-  start_rises : (rate : ℕ → ℕ) (k : ℕ) → k ≤ last → get_or (start last) k 0 ≤ get_or (minute scale chain rate last (start last)) k 0
+module _ {scale : ℕ} {chain : Chain} (pos : 0 < scale) (sound : Sound scale chain) (last : ℕ)
+    (l : last < chain.count) where
+  start_rises : (rate : ℕ → ℕ) (k : ℕ) → k ≤ last →
+      get_or (start last) k 0 ≤ get_or (minute scale chain rate last (start last)) k 0
   start_rises rate zero le =
-      rw (minute_is_renewed scale chain rate last (start last) 0 le, made_parent chain (renewing scale chain rate (start last))) (le_refl G)
+      rw (
+        minute_is_renewed scale chain rate last (start last) 0 le,
+        made_parent chain (renewing scale chain rate (start last)),
+      ) (le_refl G)
   start_rises rate (suc k) le = rw (zeros last k) (omega arith)
 
   minute_rises :
       (rate : ℕ → ℕ) (old older : List ℕ) → ((k : ℕ) → k ≤ last → get_or old k 0 ≤ get_or older k 0) →
-      (k : ℕ) → k ≤ last → get_or (minute scale chain rate last old) k 0 ≤ get_or (minute scale chain rate last older) k 0
+      (k : ℕ) → k ≤ last →
+      get_or (minute scale chain rate last old) k 0 ≤ get_or (minute scale chain rate last older) k 0
   minute_rises rate old older begins k le =
       rw (minute_is_renewed scale chain rate last old k le, minute_is_renewed scale chain rate last older k le)
-      (aged_rises pos sound last l (renewed_ages scale chain rate sound last l old) (renewed_ages scale chain rate sound last l older) begins k le)
+      (aged_rises pos sound last l (renewed_ages scale chain rate sound last l old)
+      (renewed_ages scale chain rate sound last l older) begins k le)
 
   minutes_rise :
       (rate : ℕ → ℕ) (m k : ℕ) → k ≤ last →
-      get_or (minutes scale chain rate last m (start last)) k 0 ≤ get_or (minutes scale chain rate last (suc m) (start last)) k 0
+      get_or (minutes scale chain rate last m (start last)) k 0
+      ≤ get_or (minutes scale chain rate last (suc m) (start last)) k 0
   unfolding minutes
   minutes_rise rate zero k le = start_rises rate k le
   minutes_rise rate (suc m) k le = minute_rises rate _ _ (minutes_rise rate m) k le
@@ -51,10 +60,12 @@ module _ {scale : ℕ} {chain : Chain} (pos : 0 < scale) (sound : Sound scale ch
   -- So after more minutes no factor is lower.
   pub minutes_order :
       (rate : ℕ → ℕ) (m more k : ℕ) → m ≤ more → k ≤ last →
-      get_or (minutes scale chain rate last m (start last)) k 0 ≤ get_or (minutes scale chain rate last more (start last)) k 0
+      get_or (minutes scale chain rate last m (start last)) k 0
+      ≤ get_or (minutes scale chain rate last more (start last)) k 0
   minutes_order rate m more k longer le =
       le_ind
-      (λ j. get_or (minutes scale chain rate last m (start last)) k 0 ≤ get_or (minutes scale chain rate last j (start last)) k 0)
+      (λ j. get_or (minutes scale chain rate last m (start last)) k 0
+      ≤ get_or (minutes scale chain rate last j (start last)) k 0)
       (le_refl _)
       (λ j h ih. le_trans ih (minutes_rise rate j k le))
       more
@@ -91,18 +102,22 @@ module _ (scale : ℕ) (chain : Chain) (rate : ℕ → ℕ) (last : ℕ) where
   -- Some minutes and then some more are their sum.
   pub minutes_added :
       (k m : ℕ) (factors : List ℕ) →
-      minutes scale chain rate last m (minutes scale chain rate last k factors) ≡ minutes scale chain rate last (k + m) factors
+      minutes scale chain rate last m (minutes scale chain rate last k factors)
+      ≡ minutes scale chain rate last (k + m) factors
   unfolding minutes
   minutes_added k zero factors = rw (add-zero k) refl
   minutes_added k (suc m) factors = rw (add-suc k m) (ap (minute scale chain rate last) (minutes_added k m factors))
 
-  pub minutes_length : (m : ℕ) (factors : List ℕ) → length factors ≡ suc last → length (minutes scale chain rate last m factors) ≡ suc last
+  pub minutes_length : (m : ℕ) (factors : List ℕ) → length factors ≡ suc last →
+      length (minutes scale chain rate last m factors) ≡ suc last
   unfolding minutes
   minutes_length zero factors size = size
   minutes_length (suc m) factors size = minute_length scale chain rate last _
 
-  pub minutes_parent : (m : ℕ) (factors : List ℕ) → get_or factors 0 0 ≡ G → get_or (minutes scale chain rate last m factors) 0 0 ≡ G
+  pub minutes_parent : (m : ℕ) (factors : List ℕ) → get_or factors 0 0 ≡ G →
+      get_or (minutes scale chain rate last m factors) 0 0 ≡ G
   unfolding minutes
   minutes_parent zero factors first = first
   minutes_parent (suc m) factors first =
-      minute_is_renewed scale chain rate last _ 0 (omega arith) ∙ made_parent chain (renewing scale chain rate (minutes scale chain rate last m factors))
+      minute_is_renewed scale chain rate last _ 0 (omega arith)
+      ∙ made_parent chain (renewing scale chain rate (minutes scale chain rate last m factors))

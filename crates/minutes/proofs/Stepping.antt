@@ -1,6 +1,6 @@
--- One member's minute as arithmetic: it rises with the old factor and the inflow, and it stays below an exact steady one.
--- A is 6,000 × T, D the removal of the steady balance, and E the divisor of the minute, which is no less than A + D.
--- Each fact is multiplied out, added and cancelled.
+-- One member's minute as arithmetic: it rises with the old factor and the inflow, and it stays below an exact steady
+-- one. A is 6,000 × T, D the removal of the steady balance, and E the divisor of the minute, which is no less than
+-- A + D. Each fact is multiplied out, added and cancelled.
 use Prim.Native.Nat.{ℕ, ◌+◌, ◌*◌, ◌/◌, ◌≤◌, ◌<◌}
 use native.Mathlib.Nat.{mul-le-mul_left, mul-le-mul_right, le_of_mul-le-mul_left, mul-div-le}
 use native.Mathlib.Omega.{arith}
@@ -19,7 +19,8 @@ step_rises s A K E old more fed fed_more pos pos_e older feds =
 
 -- What comes in is below what the steady factor x loses, F being the inflow in whole grains.
 inflow_below :
-    (s D K p g x F fed fed_x : ℕ) → 0 < s → s * F ≤ fed → s * D * x ≡ K * fed_x → p * fed ≤ g * fed_x → K * (p * F) ≤ D * (g * x)
+    (s D K p g x F fed fed_x : ℕ) → 0 < s → s * F ≤ fed → s * D * x ≡ K * fed_x → p * fed ≤ g * fed_x →
+    K * (p * F) ≤ D * (g * x)
 inflow_below s D K p g x F fed fed_x pos whole exact feds =
     let flows = mul-le-mul_left (K * p) whole in
     let fed_ones = mul-le-mul_left K feds in
@@ -27,7 +28,8 @@ inflow_below s D K p g x F fed fed_x pos whole exact feds =
     le_of_mul-le-mul_left {k = s} (omega arith) pos
 
 -- A mean of two that are below y, or of less, is below y.
-mean_below : (A D E old flow new y : ℕ) → 0 < E → A + D ≤ E → E * new ≤ A * old + flow → old ≤ y → flow ≤ D * y → new ≤ y
+mean_below : (A D E old flow new y : ℕ) → 0 < E → A + D ≤ E → E * new ≤ A * old + flow → old ≤ y →
+    flow ≤ D * y → new ≤ y
 mean_below A D E old flow new y pos_e le mean below inflow =
     le_of_mul-le-mul_left {k = E} (omega (arith, mul-le-mul_left A below, mul-le-mul_right y le)) pos_e
 

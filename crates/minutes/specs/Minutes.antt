@@ -17,7 +17,8 @@ new_factor scale chain rate i old fed =
 
 -- One minute of members 0 to last, in member order: F is formed from this minute's factors, and member 0 is G always.
 unfoldable pub minute : ℕ → Chain → (ℕ → ℕ) → ℕ → List ℕ → List ℕ
-minute scale chain rate last old = in_member_order chain (λ i fed. new_factor scale chain rate i (get_or old i 0) fed) last
+minute scale chain rate last old =
+    in_member_order chain (λ i fed. new_factor scale chain rate i (get_or old i 0) fed) last
 
 -- A room that was shut: member 0 is G, and the others start at 0.
 abbrev pub start : ℕ → List ℕ
@@ -39,4 +40,5 @@ minutes_of periods p = get_or periods (2 * p + 1) 0
 unfoldable pub after_periods : ℕ → Chain → (ℕ → ℕ → ℕ) → ℕ → List ℕ → ℕ → List ℕ
 after_periods scale chain rates last periods zero = start last
 after_periods scale chain rates last periods (suc p) =
-    minutes scale chain (rates (rate_of periods p)) last (minutes_of periods p) (after_periods scale chain rates last periods p)
+    minutes scale chain (rates (rate_of periods p)) last (minutes_of periods p)
+    (after_periods scale chain rates last periods p)

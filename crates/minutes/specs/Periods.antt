@@ -1,4 +1,5 @@
--- The call: periods, a book and a lent list in; checks 3, 22, 9 to 19. The factors at the end go out as in the factor call.
+-- The call: periods, a book and a lent list in; checks 3, 22, 9 to 19.
+-- The factors at the end go out as in the factor call.
 use Rattle.refusals.specs.declared.Refusal.{Refusal}
 use Rattle.std.specs.Prelude.{ℕ, ◌+◌, ◌-◌, ◌/◌, ◌%◌, Bool, ◌||◌, List, [], ◌∷◌, ◌++◌, length, eqb, ltb, Result}
 use Rattle.refusals.specs.Grounds.{Ground, ground_of, first_met, answer_if, written_if}
@@ -48,4 +49,5 @@ abbrev pub periods_answer : List ℕ → List ℕ → ℕ → Result ℕ Refusal
 periods_answer periods book capacity = answer_if (first_met (periods_grounds periods book capacity)) (members book)
 
 abbrev pub periods_list : List ℕ → List ℕ → List ℕ → List ℕ
-periods_list periods book list = written_if (first_met (periods_grounds periods book (length list))) (factors_after periods book) list
+periods_list periods book list =
+    written_if (first_met (periods_grounds periods book (length list))) (factors_after periods book) list

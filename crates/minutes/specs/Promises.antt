@@ -20,10 +20,12 @@ NotAboveSteady scale chain rate i factor = factor * denominator scale chain rate
 -- Of member i's factor after k minutes at one fixed rate, among members 0 to last.
 pub record MinutePromise (scale : ℕ) (chain : Chain) (rate : ℕ → ℕ) (last k i : ℕ) : Type 0 where
   pub not_lower :
-      get_or (minutes scale chain rate last k (start last)) i 0 ≤ get_or (minutes scale chain rate last (suc k) (start last)) i 0
+      get_or (minutes scale chain rate last k (start last)) i 0
+      ≤ get_or (minutes scale chain rate last (suc k) (start last)) i 0
   pub not_above_steady : NotAboveSteady scale chain rate i (get_or (minutes scale chain rate last k (start last)) i 0)
 
--- Of the list that a call leaves, by its answer: at rates of which none is below v, no factor is above the exact steady one at v.
+-- Of the list that a call leaves, by its answer:
+-- at rates of which none is below v, no factor is above the exact steady one at v.
 abbrev pub PeriodsPromise : List ℕ → List ℕ → Result ℕ Refusal → List ℕ → Type 0
 PeriodsPromise periods book answer list =
     (v n i : ℕ) → ((p : ℕ) → p < period_count periods → v ≤ rate_of periods p) → answer_number answer ≡ pos n → i < n →
@@ -37,22 +39,25 @@ abbrev pub all_minutes : List ℕ → ℕ
 all_minutes periods = sum_below (period_count periods) (minutes_of periods)
 
 pub record PeriodsPromises : Type 0 where
-  -- of the definitions, whichever minute the room is looked at: over any share's scale, any sound chain and any rate of each member
+  -- of the definitions, whichever minute the room is looked at:
+  -- over any share's scale, any sound chain and any rate of each member
   pub of_any_chain :
-      (scale : ℕ) (chain : Chain) (rate : ℕ → ℕ) (last k i : ℕ) → 0 < scale → Sound scale chain → last < chain.count → i ≤ last →
-      MinutePromise scale chain rate last k i
+      (scale : ℕ) (chain : Chain) (rate : ℕ → ℕ) (last k i : ℕ) → 0 < scale → Sound scale chain → last < chain.count →
+      i ≤ last → MinutePromise scale chain rate last k i
   -- and so of an accepted book's members
   pub at_a_rate :
       (book : List ℕ) (v k i : ℕ) → Accepted book → i < members book →
       MinutePromise (scale_of book) (chain_of book) (rates_at book v) (members book - 1) k i
   -- of what a call answers and leaves in the lent list
   pub of_the_list :
-      (periods book list : List ℕ) → PeriodsPromise periods book (periods_answer periods book (length list)) (periods_list periods book list)
+      (periods book list : List ℕ) →
+      PeriodsPromise periods book (periods_answer periods book (length list)) (periods_list periods book list)
   -- no place that is filled holds more than the parent's
   pub none_above_parent :
-      (periods book list : List ℕ) (n i : ℕ) → answer_number (periods_answer periods book (length list)) ≡ pos n → i < n →
-      get_or (periods_list periods book list) i 0 ≤ G
-  -- of two calls at one rate, in however many periods, the second after no fewer minutes: no place of its list holds less
+      (periods book list : List ℕ) (n i : ℕ) → answer_number (periods_answer periods book (length list)) ≡ pos n →
+      i < n → get_or (periods_list periods book list) i 0 ≤ G
+  -- of two calls at one rate, in however many periods,
+  -- the second after no fewer minutes: no place of its list holds less
   pub of_two_lists :
       (v : ℕ) (periods longer book list other : List ℕ) (n m i : ℕ) →
       AtOneRate v periods → AtOneRate v longer → all_minutes periods ≤ all_minutes longer →

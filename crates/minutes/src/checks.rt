@@ -3,7 +3,8 @@ ghost use Rattle.std.specs.Prelude.{◌≡◌};
 ghost use Rattle.refusals.specs.Grounds.{first_met};
 ghost use Rattle.numbers.specs.Tests.{outside, some_below};
 ghost use Rattle.minutes.specs.Minutes.{minutes_of};
-ghost use Rattle.minutes.specs.Periods.{max_minutes, period_count, period_rate_too_high, periods_out_of_range, periods_grounds};
+ghost use Rattle.minutes.specs.Periods.{max_minutes, period_count, period_rate_too_high};
+ghost use Rattle.minutes.specs.Periods.{periods_out_of_range, periods_grounds};
 
 use super::limits::{MAX_MINUTES, MAX_PERIODS};
 use book::{MAX_RATE, check_book, member_count};

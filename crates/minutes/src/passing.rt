@@ -1,4 +1,5 @@
-// Minutes and periods, passed in the lent list itself: it holds the factors of the minute before, and then those of this one.
+// Minutes and periods, passed in the lent list itself:
+// it holds the factors of the minute before, and then those of this one.
 ghost use Rattle.std.specs.Prelude.{◌≡◌, ◌++◌, ◌-◌, ◌≤◌, length, take, drop};
 ghost use Rattle.book.specs.BookGrounds.{Accepted};
 ghost use Rattle.book.specs.Fields.{members};
@@ -20,8 +21,9 @@ fn begin(out: &mut [u64], count: usize)
     out[0] = GRAINS;
 }
 
-// One minute. A member's inflow is read from places that hold this minute's factors already, and its own place still holds the old one.
-// `Holds` says again that the book is accepted, since its laws are of a list and the bytes of a book alone.
+// One minute. A member's inflow is read from places that hold this minute's factors already,
+// and its own place still holds the old one. `Holds` says again that the book is accepted,
+// since its laws are of a list and the bytes of a book alone.
 #[tactic(auto, using(book::proofs::Rates::scale_positive, balance::proofs::Filling::Quotients::later_half_life))]
 fn pass_minute(chain: AcceptedChain<'_>, v: Rate, out: &mut [u64])
     requires { Holds chain.chain.now.bytes.now out.old }

@@ -14,7 +14,8 @@ use wide::products_quotient;
 pub(crate) fn new_factor(inflow: u64, scale: u64, half_life: u64, v: Rate, old: u64) -> u64
     requires scale_positive { 0 < scale }
     requires half_life_le_max_half_life { half_life ≤ max_half_life }
-    ensures { result ≡ (once_a_minute * half_life * old + K * (inflow / scale)) / (K + (once_a_minute + v.hundredths) * half_life) }
+    ensures { result
+        ≡ (once_a_minute * half_life * old + K * (inflow / scale)) / (K + (once_a_minute + v.hundredths) * half_life) }
 {
     let held = ONCE_A_MINUTE * half_life;
     let whole = inflow / scale;

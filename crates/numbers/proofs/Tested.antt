@@ -54,8 +54,8 @@ module _ (n : ℕ) (p : ℕ → Bool) where
       sym (subst (Says b) here (h 0) l)
 
   found : (r : Bool) →
-      MatchBool r ((k : ℕ) × (k < length numbers) × HoldsAt (Says true) numbers k) (AllWithin (Says false) numbers 0 (length numbers)) →
-      r ≡ some_below n p
+      MatchBool r ((k : ℕ) × (k < length numbers) × HoldsAt (Says true) numbers k)
+      (AllWithin (Says false) numbers 0 (length numbers)) → r ≡ some_below n p
   found true h =
       let l : h.0 < n = omega (arith, h.1, length-range_with_len 0 n) in
       sym (passes_at p n h.0 l (met true h.0 l h.2))
@@ -74,7 +74,8 @@ some_of_any {f = f} {u = u} {r} n p ran from to keeps computes =
     (λ x q call. (keeps x false q call, λ l. computes x false q l call)))
 
 -- Of the numbers in a list, each tested at its place.
-tested_first : (p : ℕ → Bool) (xs : List ℕ) (n : ℕ) → n ≤ length xs → list_any p (take n xs) ≡ some_below n (λ i. p (get_or xs i 0))
+tested_first : (p : ℕ → Bool) (xs : List ℕ) (n : ℕ) → n ≤ length xs →
+    list_any p (take n xs) ≡ some_below n (λ i. p (get_or xs i 0))
 unfolding some_below
 tested_first p xs zero l = refl
 tested_first p xs (suc n) l =

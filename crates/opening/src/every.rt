@@ -6,8 +6,8 @@ use anyhow::{Result, bail};
 use book::MAX_MEMBERS;
 use minutes::factors_after;
 
-// All periods are tried first. Where they are refused, that is all that is written; where they are not, no part of them is
-// refused.
+// All periods are tried first. Where they are refused,
+// that is all that is written; where they are not, no part of them is refused.
 pub(crate) fn write_every(
     rt: &HostRuntime,
     periods: &[u32],

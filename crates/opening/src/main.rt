@@ -1,4 +1,5 @@
-// Writes the factors of the chain book in a file at the end of periods of airing, or a line every so many minutes of them.
+// Writes the factors of the chain book in a file at the end of periods of airing,
+// or a line every so many minutes of them.
 #![tactic(auto)]
 
 mod every;

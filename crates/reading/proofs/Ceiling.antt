@@ -2,7 +2,8 @@
 -- ceiling of a ceiling each follow by multiplying these two bounds.
 use Prim.Native.Nat.{ℕ, zero, suc, ◌+◌, ◌-◌, ◌*◌, ◌/◌, ◌%◌, ◌<◌, ◌≤◌}
 use mathlib.Core.Path.{◌≡◌, ap}
-use native.Mathlib.Nat.{le_antisymm, mul-le-mul_left, mul-le-mul_right, mul-lt-mul_of_pos_right, le_of_mul-le-mul_left, lt_of_mul-lt-mul_left, lt_of_mul-lt-mul_right, div-add-mod, mod-lt}
+use native.Mathlib.Nat.{le_antisymm, mul-le-mul_left, mul-le-mul_right, mul-lt-mul_of_pos_right, le_of_mul-le-mul_left}
+use native.Mathlib.Nat.{lt_of_mul-lt-mul_left, lt_of_mul-lt-mul_right, div-add-mod, mod-lt}
 use native.Mathlib.Omega.{arith}
 use Rattle.std.specs.Int.{div_ceil}
 use Rattle.std.proofs.lemmas.Grind.{div_ceil_times}

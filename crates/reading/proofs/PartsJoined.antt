@@ -12,7 +12,8 @@ use Rattle.reading.specs.declared.amounts.Reading.{Reading}
 use Rattle.reading.specs.declared.amounts.Unit.{Unit}
 use Rattle.reading.specs.declared.amounts.Amount.{Amount}
 use Rattle.reading.specs.declared.error.ReadingError.{ReadingError}
-use Rattle.reading.specs.Reading.{figure, amount_in, unusable, whole, whole_answer, max_concentration, through_medium, total, concentration, reading_unusable, concentration_too_high, intake_answer}
+use Rattle.reading.specs.Reading.{figure, amount_in, unusable, whole, whole_answer, max_concentration, through_medium}
+use Rattle.reading.specs.Reading.{total, concentration, reading_unusable, concentration_too_high, intake_answer}
 use Rattle.reading.specs.Private.Conversion.{capped}
 use Rattle.reading.specs.Private.Parts.{sum_of, intake_of_sum}
 use Rattle.reading.proofs.ThreeCodes.{figure_in_unit}

@@ -15,8 +15,10 @@ use Rattle.std.specs.Prelude.{Err}
 use Rattle.std.specs.Int.{div_ceil}
 use Rattle.reading.specs.declared.error.ReadingError.{ReadingError}
 use Rattle.reading.specs.Reading.{unusable, rounded_up, max_concentration}
-use Rattle.reading.specs.Private.Conversion.{exponent_of, significand_of, too_large_exponent, least_places, most_places, other_places, converted, converted_answer}
-use Rattle.reading.proofs.Ceiling.{Ceiling, rounded_up_is_ceiling, div_ceil_is_ceiling, unique, same_fraction, of_ceiling, larger_divisor, exceeds}
+use Rattle.reading.specs.Private.Conversion.{exponent_of, significand_of, too_large_exponent, least_places, most_places}
+use Rattle.reading.specs.Private.Conversion.{other_places, converted, converted_answer}
+use Rattle.reading.proofs.Ceiling.{Ceiling, rounded_up_is_ceiling, div_ceil_is_ceiling}
+use Rattle.reading.proofs.Ceiling.{unique, same_fraction, of_ceiling, larger_divisor, exceeds}
 use Rattle.reading.proofs.Pattern.{infinity, value, usable_below}
 
 value_ceiling : (x : Float) (a c m : ℕ) → 0 < c → HasValue x false a c → Ceiling (a * m) c (converted x m)

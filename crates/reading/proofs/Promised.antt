@@ -11,7 +11,8 @@ use Rattle.reading.specs.declared.amounts.Amount.{Amount}
 use Rattle.std.specs.Prelude.{Result, Ok, Err}
 use Rattle.std.proofs.lemmas.Result.{IfOk-at_ok}
 use Rattle.reading.specs.declared.error.ReadingError.{ReadingError}
-use Rattle.reading.specs.Reading.{figure, unusable, denominator_of, value_numerator, value_denominator, SmallestNotBelow, max_concentration, whole, whole_answer}
+use Rattle.reading.specs.Reading.{figure, unusable, denominator_of, value_numerator, value_denominator}
+use Rattle.reading.specs.Reading.{SmallestNotBelow, max_concentration, whole, whole_answer}
 use Rattle.reading.specs.Promises.{ReadingPromise}
 use Rattle.reading.proofs.Ceiling.{rounded_up_smallest}
 use Rattle.reading.proofs.PartsJoined.{tested, whole_within}
@@ -56,5 +57,6 @@ reading_promise amount =
       every_unusable = λ e. rw e;
     }
 
-pub promised : (amount : Amount) {answer : Result ℕ ReadingError} → answer ≡ whole_answer amount → ReadingPromise amount answer
+pub promised : (amount : Amount) {answer : Result ℕ ReadingError} → answer ≡ whole_answer amount →
+    ReadingPromise amount answer
 promised amount e = rw e (reading_promise amount)

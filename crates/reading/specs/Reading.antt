@@ -1,5 +1,6 @@
 -- From a reading to the concentration C in whole mBq/m³ (document 01, "Reading"), and grounds 7 and 8.
-use Rattle.std.specs.Prelude.{ℕ, zero, suc, ◌+◌, ◌-◌, ◌*◌, ◌/◌, ◌<◌, ◌≤◌, Bool, true, cond, ◌||◌, ltb, Float, Result, Ok, Err}
+use Rattle.std.specs.Prelude.{ℕ, zero, suc, ◌+◌, ◌-◌, ◌*◌, ◌/◌, ◌<◌, ◌≤◌, Bool}
+use Rattle.std.specs.Prelude.{true, cond, ◌||◌, ltb, Float, Result, Ok, Err}
 use Rattle.refusals.specs.Grounds.{Checked}
 use Rattle.std.specs.Float.{nan, inf, fin, binary64}
 use Rattle.std.specs.Float.Ieee.{up, down, of_bits}
@@ -158,7 +159,8 @@ concentration_too_high unit medium af reading =
 abbrev pub intake_answer : Unit → Medium → ℕ → Reading → Result ℕ ReadingError
 intake_answer unit medium af reading =
     cond (reading_unusable reading) (Err ReadingError.Unusable)
-    (cond (concentration_too_high unit medium af reading) (Err ReadingError.TooLarge) (Ok (concentration unit medium af reading)))
+    (cond (concentration_too_high unit medium af reading) (Err ReadingError.TooLarge)
+    (Ok (concentration unit medium af reading)))
 
 -- Which ground an error is.
 abbrev pub refusal_of : ReadingError → Refusal

@@ -4,7 +4,8 @@ ghost use Rattle.std.specs.Float.Ieee.{of_bits};
 ghost use Rattle.std.specs.Float.{binary64};
 ghost use Rattle.reading.specs.Reading.{rounded_up, whole_answer};
 ghost use Rattle.reading.specs.Promises.{ReadingPromise};
-ghost use Rattle.reading.specs.Private.Conversion.{exponent_of, too_large_exponent, least_places, most_places, other_places, converted, converted_answer, capped};
+ghost use Rattle.reading.specs.Private.Conversion.{exponent_of, too_large_exponent, least_places, most_places};
+ghost use Rattle.reading.specs.Private.Conversion.{other_places, converted, converted_answer, capped};
 
 use crate::amounts::Amount;
 use crate::binary64::{bits_unusable, exponent, significand};
@@ -31,10 +32,17 @@ const LEAST_PLACES_POWER: u64 = 0x20_0000;
 const MOST_PLACES: u64 = 60;
 
 // The smallest whole number of mBq/m³ not below the amount's exact value.
-#[tactic(auto, using(crate::proofs::Promised::promised), unfolding(crate::specs::Reading::whole, crate::specs::Private::Conversion::converted))]
+#[tactic(auto, using(crate::proofs::Promised::promised))]
 pub fn whole(amount: Amount) -> Result<u64, ReadingError>
     ensures answered { result ≡ whole_answer amount }
     ensures sound { ReadingPromise amount result }
+{
+    in_its_unit(amount)
+}
+
+#[tactic(auto, unfolding(crate::specs::Reading::whole, crate::specs::Private::Conversion::converted))]
+fn in_its_unit(amount: Amount) -> Result<u64, ReadingError>
+    ensures { result ≡ whole_answer amount }
 {
     match amount {
         Amount::PicocuriesPerLitre(x) => convert(x, PER_PICOCURIE_PER_LITRE),

@@ -26,8 +26,9 @@ pub use concentration::intake;
 // The whole attenuation, in the millionths in which the intake takes it.
 pub use concentration::WHOLE_ATTENUATION;
 
-// The unit of a code (`unit_of`), the amount of a figure in it (`amount_of`), and the medium of a code (`medium_of`), for
-// every code. Of a unit and of a medium `TryFrom` refuses an unknown code by ground 2 (`unit_coded`, `medium_coded`).
+// The unit of a code (`unit_of`), the amount of a figure in it (`amount_of`), and
+// the medium of a code (`medium_of`), for every code. Of a unit and of a medium
+// `TryFrom` refuses an unknown code by ground 2 (`unit_coded`, `medium_coded`).
 pub use codes::{amount, medium, unit};
 
 // The bit pattern of an f64: whether ground 7 refuses it (`unusable`), and its f64 (`float_of`).

@@ -12,4 +12,5 @@ number_of Kind.Opening = 4
 
 -- The kind of a number, or that no kind has it.
 abbrev pub Names : ℕ → Result Kind UnknownKind → Type 0
-Names number found = MatchResult found (λ kind. number_of kind ≡ number) (λ unknown. (unknown.0 ≡ number) × (4 < number))
+Names number found =
+    MatchResult found (λ kind. number_of kind ≡ number) (λ unknown. (unknown.0 ≡ number) × (4 < number))

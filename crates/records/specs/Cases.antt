@@ -1,6 +1,7 @@
 -- What is written of a recorded case of each kind, given its body. Numbers in a body are little-endian.
 use Rattle.refusals.specs.declared.Refusal.{Refusal}
-use Rattle.std.specs.Prelude.{◌≡◌, ◌≤◌, ℕ, ◌+◌, ◌*◌, min, nat_le, nat_lt, cond, MatchBool, Option, None, Some, List, [], ◌∷◌, ◌++◌, length, take, drop, replicate, Result, Ok, Err}
+use Rattle.std.specs.Prelude.{◌≡◌, ◌≤◌, ℕ, ◌+◌, ◌*◌, min, nat_le, nat_lt, cond, MatchBool, Option, None, Some, List, []}
+use Rattle.std.specs.Prelude.{◌∷◌, ◌++◌, length, take, drop, replicate, Result, Ok, Err}
 use Rattle.records.specs.declared.input.Shape.{Shape}
 use Rattle.refusals.specs.Grounds.{refusal_number}
 use Rattle.numbers.specs.Bytes.{u16_at, u32_at}
@@ -26,10 +27,12 @@ IsNextRecord room all found left =
 -- A body of one of the shapes that some head may have.
 abbrev pub IsShaped : (List ℕ → Option Shape → Type 0) → List ℕ → Type 0
 IsShaped shapes body =
-    (head : List ℕ) × (rest : List ℕ) × (shape : Shape) × shapes head (Some shape) × (length head ≡ 8) × (shape.least ≤ length rest)
+    (head : List ℕ) × (rest : List ℕ) × (shape : Shape) × shapes head (Some shape) × (length head ≡ 8)
+    × (shape.least ≤ length rest)
     × (length rest ≤ shape.rest) × (body ≡ take shape.begin head ++ rest)
 
--- The body of a case of some shape, with its head and what follows; none where there is no shape, or too little follows.
+-- The body of a case of some shape, with its head and what follows;
+-- none where there is no shape, or too little follows.
 abbrev pub body_of : Option Shape → List ℕ → List ℕ → Option (List ℕ)
 body_of None head after = None
 body_of (Some shape) head after =
@@ -41,11 +44,13 @@ abbrev pub after_case : Option Shape → List ℕ → List ℕ
 after_case None after = after
 after_case (Some shape) after = drop shape.rest after
 
--- The first case of some bytes, whose head is eight bytes, and what is left: of one of the shapes that its head may have.
+-- The first case of some bytes, whose head is eight bytes,
+-- and what is left: of one of the shapes that its head may have.
 unfoldable pub IsNextCase : (List ℕ → Option Shape → Type 0) → List ℕ → Option (List ℕ) → Option (List ℕ) → Type 0
 IsNextCase shapes all found left =
     MatchBool (nat_le 8 (length all))
-    ((shape : Option Shape) × shapes (take 8 all) shape × (found ≡ body_of shape (take 8 all) (drop 8 all)) × (left ≡ Some (after_case shape (drop 8 all))))
+    ((shape : Option Shape) × shapes (take 8 all) shape × (found ≡ body_of shape (take 8 all) (drop 8 all))
+    × (left ≡ Some (after_case shape (drop 8 all))))
     ((found ≡ None) × (left ≡ Some []))
 
 -- So many numbers of four bytes each, from an offset on.
@@ -98,4 +103,5 @@ table_case body =
     let rates = numbers_at body 6 count in
     let book = drop (6 + 4 * count) body in
     let buffer = lent_buffer (u32_at body 0) in
-    answered (ascii "written ") (table_answer rates book (length buffer)) ++ line_feed ++ table_buffer rates book buffer ++ line_feed
+    answered (ascii "written ") (table_answer rates book (length buffer)) ++ line_feed ++ table_buffer rates book buffer
+    ++ line_feed

@@ -1,5 +1,5 @@
--- The first ground met in two lists joined is the first of the earlier list, or where that passes the first of the later one.
--- Where none is met, each condition is false.
+-- The first ground met in two lists joined is the first of the earlier list, or where that passes the first of the
+-- later one. Where none is met, each condition is false.
 use Rattle.std.specs.Prelude.{Ok, Err}
 use native.Mathlib.Omega.{arith}
 use Prim.Native.Nat.{ℕ}
@@ -19,10 +19,12 @@ choice_first false refusal rest later = refl
 pub first_of_both : (gs hs : List Ground) → first_met (gs ++ hs) ≡ or_else (first_met gs) (first_met hs)
 first_of_both [] hs = refl
 first_of_both (g ∷ gs) hs =
-    ap (cond g.met (Err g.refusal)) (first_of_both gs hs) ∙ sym (choice_first g.met g.refusal (first_met gs) (first_met hs))
+    ap (cond g.met (Err g.refusal)) (first_of_both gs hs)
+    ∙ sym (choice_first g.met g.refusal (first_met gs) (first_met hs))
 
 -- One ground is not met, and the rest pass.
-pub not_met : (met : Bool) (refusal : Refusal) (rest : Checked) → cond met (Err refusal) rest ≡ Ok tt → (met ≡ false) × (rest ≡ Ok tt)
+pub not_met : (met : Bool) (refusal : Refusal) (rest : Checked) → cond met (Err refusal) rest ≡ Ok tt →
+    (met ≡ false) × (rest ≡ Ok tt)
 not_met true refusal rest e = absurd (let z : ◌≡◌ {A = ℕ} 0 1 = cc in omega arith)
 not_met false refusal rest e = (refl, e)
 

@@ -28,7 +28,8 @@ by_first true s r rest e other later =
     number (Ok tt) = 0
 by_first false s r rest e other later = later e
 
-pub other_number : (n : ℕ) (gs : List Ground) → numbered n gs ≡ false → {r : Refusal} → first_met gs ≡ Err r → refusal_number r ≡ n → ⊥
+pub other_number : (n : ℕ) (gs : List Ground) → numbered n gs ≡ false → {r : Refusal} → first_met gs ≡ Err r →
+    refusal_number r ≡ n → ⊥
 other_number n [] none e is = let z : ◌≡◌ {A = ℕ} 0 1 = cc in omega arith
 other_number n (g ∷ gs) none {r} e is =
     let parts = neither (eqb (refusal_number g.refusal) n) (numbered n gs) none in

@@ -57,8 +57,8 @@ abbrev pub answer_if : Checked → ℕ → Result ℕ Refusal
 answer_if (Ok _) n = Ok n
 answer_if (Err refusal) n = Err refusal
 
--- What it leaves in a lent list: accepted, the first places hold what it wrote and no others are written; a refusal leaves the list
--- as it was.
+-- What it leaves in a lent list: accepted,
+-- the first places hold what it wrote and no others are written; a refusal leaves the list as it was.
 abbrev pub written_if : Checked → List ℕ → List ℕ → List ℕ
 written_if (Ok _) written list = written ++ drop (length written) list
 written_if (Err _) written list = list

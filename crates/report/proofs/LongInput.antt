@@ -1,5 +1,5 @@
--- An input longer than any accepted job is refused on the ground on which its first bytes are, and a refusal is the whole
--- report, and the whole line of the lowest rate.
+-- An input longer than any accepted job is refused on the ground on which its first bytes are, and a refusal is the
+-- whole report, and the whole line of the lowest rate.
 use Rattle.std.proofs.Common.{◌≡◌, ℕ, ◌+◌, ◌<◌, List, length, take, ap, sym, ◌∙◌}
 use Rattle.screening.specs.Job.{longest_job, book_of}
 use Rattle.screening.specs.Screening.{answer_for}
@@ -10,7 +10,8 @@ use Rattle.report.specs.RateLine.{line_of, rate_line}
 
 same_report : (a b : List ℕ) → RefusedAlike a b → report_of a ≡ report_of b
 same_report a b alike =
-    ap text_of (ap (λ c. answer_for c a (book_of a)) alike.first ∙ ap (λ c. answer_for c b (book_of b)) (sym alike.second))
+    ap text_of
+    (ap (λ c. answer_for c a (book_of a)) alike.first ∙ ap (λ c. answer_for c b (book_of b)) (sym alike.second))
 
 same_line : (a b : List ℕ) → RefusedAlike a b → rate_line a ≡ rate_line b
 same_line a b alike = ap line_of (ap (λ c. lowest_for c a) alike.first ∙ ap (λ c. lowest_for c b) (sym alike.second))

@@ -1,5 +1,5 @@
--- Everything that is promised of the texts. A job that is judged is reported with its verdict, since its report is made of
--- the figures that it is answered with.
+-- Everything that is promised of the texts. A job that is judged is reported with its verdict, since its report is made
+-- of the figures that it is answered with.
 use Rattle.std.proofs.Common.{◌≡◌, ℕ, List, ◌++◌, take, ap, ◌∙◌, append_assoc}
 use Rattle.text.specs.Words.{line}
 use Rattle.verdict.specs.declared.verdict.Verdict.{Verdict}

@@ -32,7 +32,8 @@ u32s (n ∷ ns) = little_endian 4 n ++ u32s ns
 
 abbrev pub member_bytes : List MemberEntry → List ℕ
 member_bytes [] = []
-member_bytes (m ∷ ms) = little_endian 8 m.half_life ++ u32s m.coefficients ++ (m.first ∷ 0 ∷ 0 ∷ 0 ∷ []) ++ member_bytes ms
+member_bytes (m ∷ ms) =
+    little_endian 8 m.half_life ++ u32s m.coefficients ++ (m.first ∷ 0 ∷ 0 ∷ 0 ∷ []) ++ member_bytes ms
 
 abbrev pub feed_bytes : List FeedEntry → List ℕ
 feed_bytes [] = []

@@ -12,9 +12,9 @@ use Rattle.std.specs.Int.Count.{count_trailing_zeros}
 use Rattle.book.specs.Fields.{scale_of, along}
 use Rattle.book.specs.Rates.{max_rate, rates_at}
 use Rattle.numbers.specs.Tests.{some_below, some_in}
-use Rattle.book.specs.BookGrounds.{book_too_short, count_out_of_range, book_length_wrong, divisor_or_zeros_wrong, member_out_of_range}
-use Rattle.book.specs.BookGrounds.{feed_out_of_range, walk, occurrences, feed_not_once, feeds_misplaced, feed_not_from_lower}
-use Rattle.book.specs.BookGrounds.{shares_out_too_high}
+use Rattle.book.specs.BookGrounds.{book_too_short, count_out_of_range, book_length_wrong, divisor_or_zeros_wrong}
+use Rattle.book.specs.BookGrounds.{member_out_of_range, feed_out_of_range, walk, occurrences, feed_not_once}
+use Rattle.book.specs.BookGrounds.{feeds_misplaced, feed_not_from_lower, shares_out_too_high}
 use Rattle.balance.specs.Balance.{G, in_member_order, reported}
 use Rattle.balance.specs.Factors.{factor_answer, factor_list}
 use Rattle.minutes.specs.Minutes.{minute, minutes, after_periods}
@@ -22,8 +22,8 @@ use Rattle.minutes.specs.Periods.{period_rate_too_high, periods_out_of_range, pe
 use Rattle.text.specs.Words.{ascii, decimal, line_feed}
 use Rattle.entry.specs.Entry.{exponent_up_to, entry_of}
 use Rattle.tables.specs.Answers.{some_rate_too_high, table_answer, table_buffer}
-use Rattle.reading.specs.Reading.{amount_of, unit_of, medium_of, whole, whole_answer, reading_unusable, concentration_too_high}
-use Rattle.reading.specs.Reading.{intake_answer}
+use Rattle.reading.specs.Reading.{amount_of, unit_of, medium_of, whole, whole_answer}
+use Rattle.reading.specs.Reading.{reading_unusable, concentration_too_high, intake_answer}
 use Rattle.reading.specs.declared.error.ReadingError.{ReadingError}
 use Rattle.rounding.specs.Nearest.{nearest}
 use Rattle.exposure.specs.Totals.{X, Y}
@@ -50,13 +50,15 @@ no_coefficients = 0 ∷ 0 ∷ 0 ∷ 0 ∷ 0 ∷ []
 
 -- One daughter, with one feed of this share from the parent.
 abbrev one_daughter : ℕ → List ℕ
-one_daughter share = book_bytes 1000 (member 1 no_coefficients 0 ∷ member T' no_coefficients 1 ∷ []) (feed share 0 0 ∷ [])
+one_daughter share =
+    book_bytes 1000 (member 1 no_coefficients 0 ∷ member T' no_coefficients 1 ∷ []) (feed share 0 0 ∷ [])
 
 -- Members 1 and 2 half each from 0, member 3 wholly from both.
 abbrev diamond : List ℕ
 diamond =
     book_bytes 1000
-    (member T' no_coefficients 0 ∷ member T' no_coefficients 1 ∷ member T' no_coefficients 2 ∷ member T' no_coefficients 3
+    (member T' no_coefficients 0 ∷ member T' no_coefficients 1 ∷ member T' no_coefficients 2
+    ∷ member T' no_coefficients 3
     ∷ [])
     (feed 50000 0 0 ∷ feed 50000 0 0 ∷ feed 100000 1 4 ∷ feed 100000 2 0 ∷ [])
 
@@ -230,10 +232,11 @@ marked =
 
 pub every_marked_row_holds : all_hold marked ≡ true
 unfolding
-    scale_of rates_at first_rate counts refuses marked all_hold holds same_list lines decimal exponent_up_to entry_of some_rate_too_high along
-    some_below some_in book_too_short count_out_of_range book_length_wrong divisor_or_zeros_wrong member_out_of_range feed_out_of_range walk
-    occurrences feed_not_once feeds_misplaced feed_not_from_lower shares_out_too_high in_member_order reported minute minutes
-    after_periods period_rate_too_high periods_out_of_range nearest exposure_out_of_range whole reading_unusable
-    concentration_too_high code_unknown attenuation_out_of_range sum_below level working_levels figures_at number_is
-    verdict_is level_is odd of_bits count_trailing_zeros
+    scale_of rates_at first_rate counts refuses marked all_hold holds same_list lines decimal exponent_up_to entry_of
+    some_rate_too_high along some_below some_in book_too_short count_out_of_range book_length_wrong
+    divisor_or_zeros_wrong member_out_of_range feed_out_of_range walk occurrences feed_not_once feeds_misplaced
+    feed_not_from_lower shares_out_too_high in_member_order reported minute minutes after_periods period_rate_too_high
+    periods_out_of_range nearest exposure_out_of_range whole reading_unusable concentration_too_high code_unknown
+    attenuation_out_of_range sum_below level working_levels figures_at number_is verdict_is level_is odd of_bits
+    count_trailing_zeros
 every_marked_row_holds = refl

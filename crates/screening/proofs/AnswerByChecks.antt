@@ -1,5 +1,5 @@
--- From what the checks of a job find to what they leave of it, and from that to its answer: a refusal alone, or the figures by the numbers
--- that its fields hold.
+-- From what the checks of a job find to what they leave of it, and from that to its answer: a refusal alone, or the
+-- figures by the numbers that its fields hold.
 use Rattle.std.specs.Prelude.{Ok, Err, Result}
 use Prim.Native.Nat.{ℕ, ◌-◌}
 use native.Mathlib.Nat.{le_of_eq}
@@ -45,7 +45,8 @@ module _ (job book : List ℕ) {found : Checked} (told : found ≡ checked_job j
 pub refused_by_fields_is :
     (job : List ℕ) {found : Checked} {refusal : Refusal} → found ≡ first_met (field_grounds job) → found ≡ Err refusal →
     Err refusal ≡ admission_of job
-refused_by_fields_is job told refused = refused_is job (book_of job) (sym (refused_by_fields job (book_of job) (sym told ∙ refused))) refl
+refused_by_fields_is job told refused =
+    refused_is job (book_of job) (sym (refused_by_fields job (book_of job) (sym told ∙ refused))) refl
 
 -- What an admission says of the checks.
 refused_found :
@@ -54,7 +55,8 @@ refused_found (Ok tt) job e = absurd (let z : ◌≡◌ {A = ℕ} 0 1 = cc in om
 refused_found (Err r) job e = cc
 
 admitted_found :
-    (found : Checked) (job : List ℕ) {input : ScreeningInput} → admission_for found job ≡ Ok input → (found ≡ Ok tt) × (input ≡ input_of job)
+    (found : Checked) (job : List ℕ) {input : ScreeningInput} → admission_for found job ≡ Ok input →
+    (found ≡ Ok tt) × (input ≡ input_of job)
 admitted_found (Ok tt) job e = (refl, cc)
 admitted_found (Err r) job e = absurd (let z : ◌≡◌ {A = ℕ} 0 1 = cc in omega arith)
 
@@ -87,7 +89,8 @@ module _ (job : List ℕ) {admission : Result ScreeningInput Refusal} (told : ad
         })
 
     pub admitted_answer :
-        {answer : Answer} → answer ≡ screened_at input.by (book_of job) (coefficient (book_of job)) input.rate input.concentration →
+        {answer : Answer} →
+        answer ≡ screened_at input.by (book_of job) (coefficient (book_of job)) input.rate input.concentration →
         Ok answer ≡ answer_of job
     admitted_answer answer =
         ap Ok answer

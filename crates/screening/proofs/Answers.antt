@@ -1,5 +1,6 @@
--- What an answer with figures says: the checks passed, and the figures are the definition's. So its verdict keeps demand 3's promise
--- and its working levels theirs, and of two jobs that differ in the rate alone the one with the higher rate has no worse verdict.
+-- What an answer with figures says: the checks passed, and the figures are the definition's. So its verdict keeps
+-- demand 3's promise and its working levels theirs, and of two jobs that differ in the rate alone the one with the
+-- higher rate has no worse verdict.
 use Rattle.refusals.specs.declared.Refusal.{Refusal}
 use Rattle.refusals.specs.Grounds.{Checked}
 use Rattle.std.specs.Prelude.{Ok, Err, Result}
@@ -16,7 +17,8 @@ use Rattle.exposure.proofs.WithinLimits.{child_years}
 use Rattle.screening.specs.Job.{rate, rate_length, exposure_of, concentration_of, book_of}
 use Rattle.screening.specs.JobGrounds.{checked_job}
 use Rattle.verdict.specs.Verdict.{Assessment, verdict_at, verdict_order, level}
-use Rattle.screening.specs.Screening.{criterion_of, assessment_at, alpha_at, alpha_at_rest, figures_at, answer_for, answer_of}
+use Rattle.screening.specs.Screening.{criterion_of, assessment_at, alpha_at}
+use Rattle.screening.specs.Screening.{alpha_at_rest, figures_at, answer_for, answer_of}
 use Rattle.verdict.specs.WorkingLevels.{working_levels}
 use Rattle.verdict.specs.CommonFactor.{Unchanged}
 use Rattle.verdict.proofs.LevelNumbers.{none_there, some_there}
@@ -47,7 +49,8 @@ module _ (job : List ℕ) (answer : Answer) (answered : answer_of job ≡ Ok ans
   figures = answer.figures
 
   screened :
-      (checked_job job (book_of job) ≡ Ok tt) × (figures ≡ figures_of job (book_of job)) × (answer.count ≡ members (book_of job))
+      (checked_job job (book_of job) ≡ Ok tt) × (figures ≡ figures_of job (book_of job))
+      × (answer.count ≡ members (book_of job))
   screened = screened_passed (checked_job job (book_of job)) job (book_of job) answer answered
 
   passes : JobPasses job (book_of job)
@@ -61,7 +64,8 @@ module _ (job : List ℕ) (answer : Answer) (answered : answer_of job ≡ Ok ans
   unfolding figures_at
   verdict_is = ap (λ f. f.verdict) screened.1
 
-  pub level_is : figures.level ≡ level (assessment_at (criterion_of job) (book_of job) (coefficient (book_of job)) (rate job))
+  pub level_is :
+      figures.level ≡ level (assessment_at (criterion_of job) (book_of job) (coefficient (book_of job)) (rate job))
   unfolding figures_at
   level_is = ap (λ f. f.level) screened.1
 
@@ -96,7 +100,8 @@ module _ (job : List ℕ) (answer : Answer) (answered : answer_of job ≡ Ok ans
 
   -- The verdict and the level are those of every assessment that comes out as the job's.
   pub as_judged :
-      (a : Assessment) → Unchanged a (assessment_at (criterion_of job) (book_of job) (coefficient (book_of job)) (rate job)) →
+      (a : Assessment) →
+      Unchanged a (assessment_at (criterion_of job) (book_of job) (coefficient (book_of job)) (rate job)) →
       (figures.verdict ≡ verdict_at a figures.concentration) × (figures.level ≡ level a)
   as_judged a same = (
     verdict_is
@@ -112,7 +117,8 @@ pub answer_promise : (job : List ℕ) → AnswerPromise job (answer_of job)
 answer_promise job answer answered =
     let book = book_of job in
     let promise =
-    verdict_promise (criterion_of job) book (coefficient book) (rate job) (concentration_of job) (passes job answer answered).accepted (passes job answer answered).fields.rate
+    verdict_promise (criterion_of job) book (coefficient book) (rate job) (concentration_of job)
+    (passes job answer answered).accepted (passes job answer answered).fields.rate
     in
     rw (concentration_is job answer answered, verdict_is job answer answered) promise
 
@@ -127,7 +133,8 @@ module _ (job other : List ℕ) (same : drop rate_length job ≡ drop rate_lengt
   no_worse_answer answer another rises answered other-answered =
       let book = book_of other in
       let falls =
-      no_worse book (coefficient book) (rate job) (rate other) (passes other another other-answered).accepted rises (passes other another other-answered).fields.rate (criterion_of other) (concentration_of other)
+      no_worse book (coefficient book) (rate job) (rate other) (passes other another other-answered).accepted rises
+      (passes other another other-answered).fields.rate (criterion_of other) (concentration_of other)
       in
       let here =
       verdict_is job answer answered

@@ -20,10 +20,10 @@ kind_taken zero = refl
 kind_taken (suc zero) = refl
 kind_taken (suc (suc code)) = refl
 
-pub indoor_air : (code : ℕ) → sameb the_type (medium_of code) Medium.IndoorAir ≡ eqb code 0
-indoor_air zero = refl
-indoor_air (suc zero) = refl
-indoor_air (suc (suc code)) = sym (ne_eqb (suc (suc code)) 0 (λ e. omega arith))
+pub indoor : (code : ℕ) → sameb the_type (medium_of code) Medium.IndoorAir ≡ eqb code 0
+indoor zero = refl
+indoor (suc zero) = refl
+indoor (suc (suc code)) = sym (ne_eqb (suc (suc code)) 0 (λ e. omega arith))
 
 -- What ground 2 reads of the codes.
 pub ruleset unknown = (kind_unknown, medium_unknown, unit_unknown)

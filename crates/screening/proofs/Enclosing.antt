@@ -29,11 +29,13 @@ module _ {x P n d : ℕ} (same : SameFraction x P n d) (y c : ℕ) where
 
 module _ {scale : ℕ} {chain : Chain} {rate : ℕ → ℕ} where
   within_2i :
-      (i : ℕ) {f : ℕ} → FactorPromise scale chain rate i f → numerator scale chain rate i * G ≤ (f + 2 * i) * denominator scale chain rate i
+      (i : ℕ) {f : ℕ} → FactorPromise scale chain rate i f →
+      numerator scale chain rate i * G ≤ (f + 2 * i) * denominator scale chain rate i
   within_2i zero promise = omega (arith, promise.parent_equal refl)
   within_2i (suc i) promise = le_of_lt (promise.less_than_2i_below (omega arith))
 
-  module _ (pos : 0 < scale) (n : ℕ) {f : ℕ → ℕ} (promises : (i : ℕ) → i < n → FactorPromise scale chain rate i (f i)) where
+  module _ (pos : 0 < scale) (n : ℕ) {f : ℕ → ℕ}
+      (promises : (i : ℕ) → i < n → FactorPromise scale chain rate i (f i)) where
     same :
         (i : ℕ) → i < n →
         SameFraction
@@ -41,12 +43,18 @@ module _ {scale : ℕ} {chain : Chain} {rate : ℕ → ℕ} where
         (denominator scale chain rate (n - 1))
         (numerator scale chain rate i)
         (denominator scale chain rate i)
-    same i l = record { crossed = one_denominator scale chain rate (n - 1) i (omega arith); positive = denominator_pos scale chain rate pos i }
+    same i l =
+        record {
+          crossed = one_denominator scale chain rate (n - 1) i (omega arith);
+          positive = denominator_pos scale chain rate pos i;
+        }
 
-    pub factors_enclosed : Enclosed n (denominator scale chain rate (n - 1)) f (λ i. get_or (numerators scale chain rate (n - 1)) i 0)
+    pub factors_enclosed :
+        Enclosed n (denominator scale chain rate (n - 1)) f (λ i. get_or (numerators scale chain rate (n - 1)) i 0)
     factors_enclosed =
         record {
           not_above = λ i l. below_fraction (same i l) _ G (promises i l).never_above;
           near = λ i l. above_fraction (same i l) _ G (within_2i i (promises i l));
-          at_most_one = λ i l. omega (arith, above_fraction (same i l) 1 1 (omega (arith, (promises i l).exact_at_most_one)));
+          at_most_one =
+              λ i l. omega (arith, above_fraction (same i l) 1 1 (omega (arith, (promises i l).exact_at_most_one)));
         }

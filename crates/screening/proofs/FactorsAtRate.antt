@@ -1,5 +1,5 @@
--- The factors that the code holds at a rate are the book's: each stands in its place, and is at most G. So a verdict that is reached on them
--- is the one at that rate.
+-- The factors that the code holds at a rate are the book's: each stands in its place, and is at most G. So a verdict
+-- that is reached on them is the one at that rate.
 use Prim.Native.Nat.{ℕ, ◌-◌, ◌≤◌, ◌<◌}
 use mathlib.Core.Path.{◌≡◌, refl, ap, ◌∙◌}
 use mathlib.Core.List.{List, []}
@@ -31,7 +31,8 @@ abbrev pub factor_array : List ℕ → ℕ → List ℕ
 factor_array book v = factor_list v book (replicate max_members 0)
 
 -- what is asked of a verdict at a rate
-pub within : {by : Criterion} {v C : ℕ} {book : List ℕ} → Judgeable by C → v ≤ max_rate → Accepted book → Screenable by v C book
+pub within : {by : Criterion} {v C : ℕ} {book : List ℕ} → Judgeable by C → v ≤ max_rate → Accepted book →
+    Screenable by v C book
 within given rate accepted =
     record { target = given.target; rate = rate; concentration = given.concentration; accepted = accepted }
 
@@ -42,11 +43,14 @@ module _ {by : Criterion} {v C : ℕ} {book : List ℕ} (asked : Screenable by v
   -- the first places of the array hold them, one for each member
   front_is : (u : ℕ) → u ≤ max_rate → {n : ℕ} → n ≡ members book → take n (factor_array book u) ≡ factors_at book u
   front_is u within {n} count_is =
-      let passes = passing_call u book max_members (record { rate = within; accepted = asked.accepted; enough = ranges.members_count.to }) in
+      let passes =
+      passing_call u book max_members
+      (record { rate = within; accepted = asked.accepted; enough = ranges.members_count.to }) in
       ap (λ found. take n (written_if found (factors_at book u) (replicate max_members 0))) passes
       ∙ take_at (factors_at book u) _ n (rw count_is (factors_length book u asked.accepted))
 
-  pub made_at : {u n : ℕ} {array : List ℕ} → u ≤ max_rate → n ≡ members book → array ≡ factor_array book u → take n array ≡ factors_at book u
+  pub made_at : {u n : ℕ} {array : List ℕ} → u ≤ max_rate → n ≡ members book → array ≡ factor_array book u →
+      take n array ≡ factors_at book u
   made_at {u} {n} within count_is made = ap (take n) made ∙ front_is u within count_is
 
   pub factor_is : (u i : ℕ) → i < members book → get_or (factors_at book u) i 0 ≡ factor_at book u i
@@ -73,9 +77,11 @@ module _ {by : Criterion} {v C : ℕ} {book : List ℕ} (asked : Screenable by v
         verdict ≡ verdict_at (assessment_in by (take n rows) made) C →
         verdict ≡ verdict_at (assessment_at by book (number_in rows) v) C
     verdict_at_rate rows {n} counted given =
-        let weight_is : (i : ℕ) → i < members book → weight_of by (number_in (take n rows)) i ≡ weight_of by (number_in rows) i =
+        let weight_is : (i : ℕ) → i < members book →
+        weight_of by (number_in (take n rows)) i ≡ weight_of by (number_in rows) i =
         λ i l. rw (get_or-take n rows i [] (rw counted l)) refl
         in
         given
         ∙ ap (λ count. verdict_at (assessment_by by count (number_in (take n rows)) (λ i. get_or made i 0)) C) count_is
-        ∙ ap (λ j. j.verdict) (judged_same (members book) weight_is (λ i l. ap (λ list. get_or list i 0) at_rate ∙ factor_is v i l) (bound_of by) C)
+        ∙ ap (λ j. j.verdict) (judged_same (members book) weight_is
+        (λ i l. ap (λ list. get_or list i 0) at_rate ∙ factor_is v i l) (bound_of by) C)

@@ -15,15 +15,19 @@ use Rattle.verdict.specs.declared.verdict.Criterion.{Criterion}
 use Rattle.verdict.proofs.Falling as any
 use Rattle.screening.specs.Screening.{assessment_at, alpha_at, alpha_at_rest}
 
-pub factor_falls : (book : List ℕ) (v w : ℕ) → Accepted book → v ≤ w → w ≤ max_rate → (i : ℕ) → i < members book → factor_at book w i ≤ factor_at book v i
-factor_falls book v w accepted rises within i l = (factor_promises.at_two_rates book v w i accepted rises within l).reported_falls
+pub factor_falls : (book : List ℕ) (v w : ℕ) → Accepted book → v ≤ w → w ≤ max_rate → (i : ℕ) → i < members book →
+    factor_at book w i ≤ factor_at book v i
+factor_falls book v w accepted rises within i l =
+    (factor_promises.at_two_rates book v w i accepted rises within l).reported_falls
 
-module _ (book : List ℕ) (coefficient : ℕ → ℕ → ℕ) (v w : ℕ) (accepted : Accepted book) (rises : v ≤ w) (within : w ≤ max_rate) where
+module _ (book : List ℕ) (coefficient : ℕ → ℕ → ℕ) (v w : ℕ) (accepted : Accepted book) (rises : v ≤ w)
+    (within : w ≤ max_rate) where
   falls : (i : ℕ) → i < members book → factor_at book w i ≤ factor_at book v i
   falls = factor_falls book v w accepted rises within
 
   pub no_worse :
-      (by : Criterion) (C : ℕ) → verdict_order (verdict_at (assessment_at by book coefficient w) C) ≤ verdict_order (verdict_at (assessment_at by book coefficient v) C)
+      (by : Criterion) (C : ℕ) → verdict_order (verdict_at (assessment_at by book coefficient w) C)
+      ≤ verdict_order (verdict_at (assessment_at by book coefficient v) C)
   no_worse by C =
       any.no_worse (assessment_at by book coefficient v) (assessment_at by book coefficient w)
       (record { count = refl; weight = λ i l. refl; factor = falls; bound = refl })

@@ -1,5 +1,5 @@
--- What is worked out from what the code holds of an accepted book is the book's own: each number and each factor of a member stands in its
--- place.
+-- What is worked out from what the code holds of an accepted book is the book's own:
+-- each number and each factor of a member stands in its place.
 use Prim.Native.Nat.{ℕ, ◌+◌, ◌*◌, ◌<◌}
 use native.Mathlib.Omega.{arith}
 use mathlib.Core.Path.{◌≡◌, refl, ap, ap₂, ◌∙◌}
@@ -40,10 +40,12 @@ pub record InRows (book : List ℕ) (rows : List (List ℕ)) : Type 0 where
   row : (i : ℕ) → i < members book → get_or rows i [] ≡ coefficients_of book i
 
 module _ {book : List ℕ} {rows : List (List ℕ)} (stand : InRows book rows) where
-  number_is : (i which : ℕ) → i < members book → which < coefficient_count → number_in rows i which ≡ coefficient book i which
+  number_is : (i which : ℕ) → i < members book → which < coefficient_count →
+      number_in rows i which ≡ coefficient book i which
   number_is i which l w = ap (λ row. get_or row which 0) (stand.row i l) ∙ row_at book i which w
 
-  weight_is : (by : Criterion) (i : ℕ) → i < members book → weight_of by (number_in rows) i ≡ weight_of by (coefficient book) i
+  weight_is : (by : Criterion) (i : ℕ) → i < members book →
+      weight_of by (number_in rows) i ≡ weight_of by (coefficient book) i
   weight_is by i l =
       ap₂
       (λ h s. 365 * by.x * h + by.y * s)
@@ -52,17 +54,20 @@ module _ {book : List ℕ} {rows : List (List ℕ)} (stand : InRows book rows) w
 
   -- at any rate the verdict with the rows' numbers is the one with the book's
   pub by_rows :
-      (by : Criterion) (C u : ℕ) → verdict_at (assessment_at by book (number_in rows) u) C ≡ verdict_at (assessment_at by book (coefficient book) u) C
+      (by : Criterion) (C u : ℕ) → verdict_at (assessment_at by book (number_in rows) u) C
+      ≡ verdict_at (assessment_at by book (coefficient book) u) C
   by_rows by C u = ap (λ j. j.verdict) (judged_same (members book) (weight_is by) (λ i l. refl) (bound_of by) C)
 
 -- the whole array that is held of a book
 pub in_array :
-    {book : List ℕ} {n : ℕ} {array : List (List ℕ)} {W : ℕ} → Accepted book → HoldingNumbers book n array W → InRows book array
+    {book : List ℕ} {n : ℕ} {array : List (List ℕ)} {W : ℕ} → Accepted book → HoldingNumbers book n array W →
+    InRows book array
 in_array {book} accepted held =
     record {
       row = λ i l.
           ap (λ t. get_or t i []) held.rows
-          ∙ filled_at (member_places book) (coefficients_of book) _ i [] (rw (all_members (accepted_ranges book accepted)) l);
+          ∙ filled_at (member_places book)
+          (coefficients_of book) _ i [] (rw (all_members (accepted_ranges book accepted)) l);
     }
 
 module _ {by : Criterion} {v C : ℕ} {book : List ℕ} (asked : Screenable by v C book)
@@ -73,21 +78,31 @@ module _ {by : Criterion} {v C : ℕ} {book : List ℕ} (asked : Screenable by v
   stand : InRows book rows
   stand =
       record {
-        row = λ i l. ap (λ t. get_or t i []) read ∙ up_to_at (member_places book) (coefficients_of book) i [] (rw (all_members (ranges asked)) l);
+        row =
+            λ i l. ap (λ t. get_or t i []) read
+            ∙ up_to_at (member_places book) (coefficients_of book) i [] (rw (all_members (ranges asked)) l);
       }
 
   -- what the code has made of the factors at the rate and at rate 0
   module _ {made zeroed : List ℕ} {W : ℕ} (at_rate : made ≡ factors_at book v) (at_zero : zeroed ≡ factors_at book 0)
       (divisor_is : W ≡ working_level_divisor book) where
     zero : Screenable by 0 C book
-    zero = record { target = asked.target; rate = omega arith; concentration = asked.concentration; accepted = asked.accepted }
+    zero =
+        record {
+          target = asked.target;
+          rate = omega arith;
+          concentration = asked.concentration;
+          accepted = asked.accepted;
+        }
 
     judged_are : judged_on (assessment_in by rows made) C ≡ judged_on (assessment_at by book (coefficient book) v) C
     judged_are =
         ap (λ n. judged_on (assessment_by by n (number_in rows) (λ i. get_or made i 0)) C) (count_is asked at_rate)
-        ∙ judged_same (members book) (weight_is stand by) (λ i l. ap (λ list. get_or list i 0) at_rate ∙ factor_is asked v i l) (bound_of by) C
+        ∙ judged_same (members book) (weight_is stand by)
+        (λ i l. ap (λ list. get_or list i 0) at_rate ∙ factor_is asked v i l) (bound_of by) C
 
-    alpha_are : (u : ℕ) {list : List ℕ} → length list ≡ members book → list ≡ factors_at book u → alpha_in rows list ≡ alpha_at book (coefficient book) u
+    alpha_are : (u : ℕ) {list : List ℕ} → length list ≡ members book → list ≡ factors_at book u →
+        alpha_in rows list ≡ alpha_at book (coefficient book) u
     alpha_are u {list} size at =
         ap (λ n. alpha_sum n (number_in rows) (λ i. get_or list i 0)) size
         ∙ alpha_same
@@ -119,5 +134,6 @@ module _ {by : Criterion} {v C : ℕ} {book : List ℕ} (asked : Screenable by v
     pub screened_is :
         {figures : Figures} {list : List ℕ} {count : ℕ}
         → figures ≡ figures_in by C W rows made zeroed → list ≡ factor_array book v → count ≡ members book
-        → ◌≡◌ {A = Answer} (record { figures = figures; factors = list; count = count }) (screened_at by book (coefficient book) v C)
+        → ◌≡◌ {A = Answer} (record { figures = figures; factors = list; count = count })
+        (screened_at by book (coefficient book) v C)
     screened_is found listed counted = rw (found ∙ figures_are, listed, counted) refl

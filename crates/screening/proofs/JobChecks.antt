@@ -1,5 +1,5 @@
--- What the checks of a job find, part by part: of lists joined, the earlier list's grounds come first. What passing them says of its numbers:
--- no ground is met, so each condition is false, and a false comparison gives an order.
+-- What the checks of a job find, part by part: of lists joined, the earlier list's grounds come first. What passing
+-- them says of its numbers: no ground is met, so each condition is false, and a false comparison gives an order.
 use Rattle.std.specs.Prelude.{Ok, Err}
 use Prim.Native.Nat.{ℕ, ◌≤◌}
 use mathlib.Core.Path.{◌≡◌, refl, ap, sym, ◌∙◌}
@@ -13,18 +13,22 @@ use Rattle.refusals.specs.declared.Refusal.{Refusal}
 use Rattle.refusals.proofs.FirstMet.{first_of_both, not_met, both_pass}
 use Rattle.book.specs.BookGrounds.{book_grounds, Accepted}
 use Rattle.book.specs.Rates.{max_rate}
-use Rattle.reading.specs.Reading.{unit_of, medium_of, reading_unusable, concentration_too_high, max_concentration, refusal_of, intake_checked}
+use Rattle.reading.specs.Reading.{unit_of, medium_of, reading_unusable, concentration_too_high}
+use Rattle.reading.specs.Reading.{max_concentration, refusal_of, intake_checked}
 use Rattle.std.specs.Prelude.{Result, Ok, Err}
 use Rattle.reading.specs.declared.error.ReadingError.{ReadingError}
 use Rattle.reading.proofs.PartsJoined.{concentration_within}
-use Rattle.screening.specs.Job.{rate, medium, unit, target, attenuation, reading_of, for_reading, concentration_of, intake_of, exposure_of, job_length}
+use Rattle.screening.specs.Job.{rate, medium, unit, target, attenuation, reading_of, for_reading}
+use Rattle.screening.specs.Job.{concentration_of, intake_of, exposure_of, job_length}
 use Rattle.exposure.specs.Exposure.{exposure_out_of_range}
 use Rattle.verdict.specs.Verdict.{max_target}
-use Rattle.screening.specs.JobGrounds.{code_unknown, attenuation_out_of_range, checked_job, field_grounds, reading_grounds}
+use Rattle.screening.specs.JobGrounds.{code_unknown, attenuation_out_of_range}
+use Rattle.screening.specs.JobGrounds.{checked_job, field_grounds, reading_grounds}
 
 pub checked_by_parts :
     (job book : List ℕ)
-    → checked_job job book ≡ or_else (first_met (field_grounds job)) (or_else (first_met (reading_grounds job)) (first_met (book_grounds book)))
+    → checked_job job book ≡ or_else (first_met (field_grounds job))
+    (or_else (first_met (reading_grounds job)) (first_met (book_grounds book)))
 checked_by_parts job book =
     first_of_both (field_grounds job) (reading_grounds job ++ book_grounds book)
     ∙ ap (or_else (first_met (field_grounds job))) (first_of_both (reading_grounds job) (book_grounds book))
@@ -39,7 +43,8 @@ of_intake false true c = refl
 of_intake false false c = refl
 
 pub reading_checked : (job : List ℕ) → intake_checked (intake_of job) ≡ first_met (reading_grounds job)
-reading_checked job = of_intake (reading_unusable (reading_of job)) (for_reading concentration_too_high job) (concentration_of job)
+reading_checked job =
+    of_intake (reading_unusable (reading_of job)) (for_reading concentration_too_high job) (concentration_of job)
 
 -- What the code finds after the fields have passed: the reading's error, or with a concentration what the book's checks
 -- find.
@@ -60,12 +65,15 @@ module _ (job book : List ℕ) (passed : first_met (field_grounds job) ≡ Ok tt
       {answer : Result ℕ ReadingError} {c : ℕ} {found : Checked} → answer ≡ intake_of job → answer ≡ Ok c →
       found ≡ first_met (book_grounds book) → found ≡ checked_job job book
   found_by_book told is found =
-      found ∙ sym (after_fields ∙ ap (λ reading. or_else (intake_checked reading) (first_met (book_grounds book))) (sym told ∙ is))
+      found ∙ sym (after_fields
+      ∙ ap (λ reading. or_else (intake_checked reading) (first_met (book_grounds book))) (sym told ∙ is))
 
 pub refused_by_fields :
-    (job book : List ℕ) {refusal : Refusal} → first_met (field_grounds job) ≡ Err refusal → checked_job job book ≡ Err refusal
+    (job book : List ℕ) {refusal : Refusal} → first_met (field_grounds job) ≡ Err refusal →
+    checked_job job book ≡ Err refusal
 refused_by_fields job book refused =
-    checked_by_parts job book ∙ ap (λ first. or_else first (or_else (first_met (reading_grounds job)) (first_met (book_grounds book)))) refused
+    checked_by_parts job book
+    ∙ ap (λ first. or_else first (or_else (first_met (reading_grounds job)) (first_met (book_grounds book)))) refused
 
 pub record FieldsPass (job : List ℕ) : Type 0 where
   pub long : job_length ≤ length job
@@ -103,8 +111,11 @@ reading_passes job passed =
     let g7 = not_met (reading_unusable (reading_of job)) _ _ passed in
     let g8 = not_met (for_reading concentration_too_high job) _ _ g7.1 in
     record {
-      is = in_intake (reading_unusable (reading_of job)) (for_reading concentration_too_high job) (concentration_of job) g7.0 g8.0;
-      within = concentration_within (unit_of (unit job)) (medium_of (medium job)) (attenuation job) (reading_of job) g8.0;
+      is =
+          in_intake (reading_unusable (reading_of job)) (for_reading concentration_too_high job)
+          (concentration_of job) g7.0 g8.0;
+      within =
+          concentration_within (unit_of (unit job)) (medium_of (medium job)) (attenuation job) (reading_of job) g8.0;
     }
 
 pub record JobPasses (job book : List ℕ) : Type 0 where

@@ -15,7 +15,8 @@ multiplied x y c d n P grown over = omega (arith, ap (λ t. t * d) grown, ap (λ
 module _ (scale : ℕ) (chain : Chain) (rate : ℕ → ℕ) where
   Over : ℕ → ℕ → Type 0
   Over k i =
-      get_or (numerators scale chain rate i) k 0 * denominator scale chain rate k ≡ numerator scale chain rate k * denominator scale chain rate i
+      get_or (numerators scale chain rate i) k 0 * denominator scale chain rate k
+      ≡ numerator scale chain rate k * denominator scale chain rate i
 
   next : (i k : ℕ) → k ≤ i → Over k i → Over k (suc i)
   unfolding Over denominator
@@ -24,6 +25,7 @@ module _ (scale : ℕ) (chain : Chain) (rate : ℕ → ℕ) where
   pub one_denominator :
       (i k : ℕ)
       → k ≤ i
-      → get_or (numerators scale chain rate i) k 0 * denominator scale chain rate k ≡ numerator scale chain rate k * denominator scale chain rate i
+      → get_or (numerators scale chain rate i) k 0 * denominator scale chain rate k
+      ≡ numerator scale chain rate k * denominator scale chain rate i
   unfolding Over
   one_denominator i k le = le_ind (λ m. Over k m) refl (λ m l over. next m k l over) i le

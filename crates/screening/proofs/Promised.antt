@@ -33,11 +33,13 @@ demand_3 =
       one_denominator = one_denominator;
       verdict = verdict_promise;
       answer = answer_promise;
-      no_worse = λ by book coefficient v w C accepted rises within. no_worse book coefficient v w accepted rises within by C;
+      no_worse =
+          λ by book coefficient v w C accepted rises within. no_worse book coefficient v w accepted rises within by C;
       no_worse_answer = λ job other figures others same rises answered other-answered.
           no_worse_answer job other same figures others rises answered other-answered;
       level = level_promise;
-      equilibrium_at_most_one = λ book coefficient v accepted within some. equilibrium_at_most_one book coefficient v accepted within;
+      equilibrium_at_most_one =
+          λ book coefficient v accepted within some. equilibrium_at_most_one book coefficient v accepted within;
       levels = levels;
       at_rest = at_rest;
     }
@@ -60,6 +62,7 @@ promises =
       whole_hours = whole_hours;
       unrounded_shares = unrounded_shares;
       reading = reading_promise;
-      grounds_of_amount = λ amount. whole_grounds (unusable (figure amount)) (ltb max_concentration (whole amount)) (whole amount);
+      grounds_of_amount =
+          λ amount. whole_grounds (unusable (figure amount)) (ltb max_concentration (whole amount)) (whole amount);
       grounds_of_reading = reading_checked;
     }

@@ -20,7 +20,8 @@ use Rattle.screening.proofs.Answers.{as_judged}
 
 judged :
     (kind : Kind) (e : HoursExposure) (target : ℕ) (book : List ℕ) (coefficient : ℕ → ℕ → ℕ) (v : ℕ) →
-    Unchanged (hours_assessment kind e target book coefficient v) (assessment_at (criterion_for kind (in_quarters e) target) book coefficient v)
+    Unchanged (hours_assessment kind e target book coefficient v)
+    (assessment_at (criterion_for kind (in_quarters e) target) book coefficient v)
 judged kind e target book coefficient v =
     rw ((restated.whole_hours).x kind e, (restated.whole_hours).y kind e)
     (any.restated (hours_criterion kind e target) (members book) coefficient (factor_at book v))
@@ -34,7 +35,8 @@ answer job e given same answered =
     let by = criterion_of job in
     as_judged job given answered (hours_assessment_of job e)
     (subst
-    (λ x. Unchanged (hours_assessment_of job e) (assessment_at (criterion_for by.kind x by.target) book (coefficient book) (rate job)))
+    (λ x. Unchanged (hours_assessment_of job e)
+    (assessment_at (criterion_for by.kind x by.target) book (coefficient book) (rate job)))
     (sym same)
     (judged by.kind e by.target book (coefficient book) (rate job)))
 

@@ -1,5 +1,5 @@
--- Two jobs whose bytes from the kind on are the same have the same fields but for the rate. So they have the same checks but for the two
--- that read the length and the rate.
+-- Two jobs whose bytes from the kind on are the same have the same fields but for the rate. So they have the same
+-- checks but for the two that read the length and the rate.
 use Prim.Native.Nat.{ℕ, ◌+◌, ◌-◌, ◌*◌, ◌^◌, ◌≤◌, ◌<◌}
 use native.Mathlib.Omega.{arith}
 use mathlib.Core.Path.{◌≡◌, ap, ap₂, sym, ◌∙◌}
@@ -16,9 +16,10 @@ use Rattle.reading.specs.Reading.{unit_of, medium_of, reading_unusable, concentr
 use Rattle.reading.specs.declared.amounts.Unit.{Unit}
 use Rattle.reading.specs.declared.amounts.Medium.{Medium}
 use Rattle.reading.specs.declared.amounts.Reading.{Reading}
-use Rattle.screening.specs.Job.{rate_length, rate, kind, kind_of, medium, unit, target, attenuation, job_length, book_of}
-use Rattle.screening.specs.Job.{reading_of, for_reading, concentration_of, group_at, exposure_of}
-use Rattle.screening.specs.JobGrounds.{code_unknown, attenuation_out_of_range, checked_job, field_grounds, reading_grounds}
+use Rattle.screening.specs.Job.{rate_length, rate, kind, kind_of, medium, unit, target, attenuation, job_length}
+use Rattle.screening.specs.Job.{book_of, reading_of, for_reading, concentration_of, group_at, exposure_of}
+use Rattle.screening.specs.JobGrounds.{code_unknown, attenuation_out_of_range}
+use Rattle.screening.specs.JobGrounds.{checked_job, field_grounds, reading_grounds}
 use Rattle.screening.specs.Screening.{criterion_for, criterion_of}
 use Rattle.verdict.specs.declared.verdict.Criterion.{Criterion}
 use Rattle.screening.proofs.JobChecks.{checked_by_parts}
@@ -31,15 +32,22 @@ module _ {a b : List ℕ} (same : SameFields a b) where
   u16_same k low l = ap₂ (λ x y. x + 2 ^ 8 * y) (same.byte k low (omega arith)) (same.byte (k + 1) (omega arith) l)
 
   u32_same : (k : ℕ) → rate_length ≤ k → k + 3 < job_length → u32_at a k ≡ u32_at b k
-  u32_same k low l = ap₂ (λ x y. x + 2 ^ 16 * y) (u16_same k low (omega arith)) (u16_same (k + 2) (omega arith) (omega arith))
+  u32_same k low l =
+      ap₂ (λ x y. x + 2 ^ 16 * y) (u16_same k low (omega arith)) (u16_same (k + 2) (omega arith) (omega arith))
 
   u64_same : (k : ℕ) → rate_length ≤ k → k + 7 < job_length → u64_at a k ≡ u64_at b k
-  u64_same k low l = ap₂ (λ x y. x + 2 ^ 32 * y) (u32_same k low (omega arith)) (u32_same (k + 4) (omega arith) (omega arith))
+  u64_same k low l =
+      ap₂ (λ x y. x + 2 ^ 32 * y) (u32_same k low (omega arith)) (u32_same (k + 4) (omega arith) (omega arith))
 
   pub codes_same : code_unknown a ≡ code_unknown b
   unfolding code_unknown
   codes_same =
-      rw (same.byte 4 (omega arith) (omega arith), same.byte 5 (omega arith) (omega arith), same.byte 6 (omega arith) (omega arith), same.byte 7 (omega arith) (omega arith))
+      rw (
+        same.byte 4 (omega arith) (omega arith),
+        same.byte 5 (omega arith) (omega arith),
+        same.byte 6 (omega arith) (omega arith),
+        same.byte 7 (omega arith) (omega arith),
+      )
 
   pub attenuation_same : attenuation_out_of_range a ≡ attenuation_out_of_range b
   unfolding attenuation_out_of_range

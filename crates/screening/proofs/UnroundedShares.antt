@@ -1,4 +1,5 @@
--- Where no share is rounded, share × Z is 100 × ED. So Z times what the verdict is reached on is 100 times what it was reached on before.
+-- Where no share is rounded, share × Z is 100 × ED.
+-- So Z times what the verdict is reached on is 100 times what it was reached on before.
 use Rattle.std.specs.Prelude.{Ok}
 use Prim.Native.Nat.{ℕ, ◌*◌, ◌<◌}
 use native.Mathlib.Omega.{arith}
@@ -14,7 +15,8 @@ use Rattle.screening.specs.Job.{rate, kind, kind_of, target, exposure_of, book_o
 use Rattle.verdict.specs.Verdict.{verdict_at, level}
 use Rattle.screening.specs.Screening.{criterion_for, assessment_at, answer_of}
 use Rattle.verdict.specs.CommonFactor.{Unchanged}
-use Rattle.screening.specs.UnroundedShares.{years_bound, years_assessment, years_assessment_of, Unrounded, UnroundedPromise}
+use Rattle.screening.specs.UnroundedShares.{years_bound, years_assessment}
+use Rattle.screening.specs.UnroundedShares.{years_assessment_of, Unrounded, UnroundedPromise}
 use Rattle.screening.specs.declared.job.Answer.{Answer}
 use Rattle.verdict.proofs.Proportion.{same_verdicts}
 use Rattle.screening.proofs.Answers.{as_judged, some_years}
@@ -30,13 +32,19 @@ module _ (e : Exposure) (exact : Unrounded e) where
 
   y_carries : 100 * Y Kind.Risk e ≡ Z e * Y Kind.Dose e
   y_carries =
-      omega (arith, ap (λ t. e.child.days * e.child.quarter_hours * t) exact.child, ap (λ t. e.adult.days * e.adult.quarter_hours * t) exact.adult)
+      omega (
+        arith,
+        ap (λ t. e.child.days * e.child.quarter_hours * t) exact.child,
+        ap (λ t. e.adult.days * e.adult.quarter_hours * t) exact.adult,
+      )
 
   judged :
       0 < Z e → (target : ℕ) (book : List ℕ) (coefficient : ℕ → ℕ → ℕ) (v : ℕ) →
-      Unchanged (years_assessment e target book coefficient v) (assessment_at (criterion_for Kind.Dose e target) book coefficient v)
+      Unchanged (years_assessment e target book coefficient v)
+      (assessment_at (criterion_for Kind.Dose e target) book coefficient v)
   judged some_years target book coefficient v =
-      same_verdicts Kind.Dose (X Kind.Risk e) (Y Kind.Risk e) (years_bound e target) (X Kind.Dose e) (Y Kind.Dose e) target
+      same_verdicts Kind.Dose (X Kind.Risk e) (Y Kind.Risk e) (years_bound e target) (X Kind.Dose e)
+      (Y Kind.Dose e) target
       (members book) coefficient (factor_at book v) (Z e) 100 some_years
       (omega arith)
       x_carries
@@ -44,22 +52,26 @@ module _ (e : Exposure) (exact : Unrounded e) where
       (omega arith)
 
 answer :
-    (job : List ℕ) (answer : Answer) → kind_of (kind job) ≡ Kind.Dose → Unrounded (exposure_of job) → answer_of job ≡ Ok answer →
+    (job : List ℕ) (answer : Answer) → kind_of (kind job) ≡ Kind.Dose →
+    Unrounded (exposure_of job) → answer_of job ≡ Ok answer →
     (answer.figures.verdict ≡ verdict_at (years_assessment_of job) answer.figures.concentration)
     × (answer.figures.level ≡ level (years_assessment_of job))
 answer job given dose exact answered =
     let book = book_of job in
     as_judged job given answered (years_assessment_of job)
     (subst
-    (λ k. Unchanged (years_assessment_of job) (assessment_at (criterion_for k (exposure_of job) (target job)) book (coefficient book) (rate job)))
+    (λ k. Unchanged (years_assessment_of job)
+    (assessment_at (criterion_for k (exposure_of job) (target job)) book (coefficient book) (rate job)))
     (sym dose)
     (judged (exposure_of job) exact (some_years job given answered) (target job) book (coefficient book) (rate job)))
 
 adults_alone : (e : Exposure) → e.child.years ≡ 0 → 0 < Z e → Unrounded e
-adults_alone e none some_years = record { child = unrounded 0 some_years (omega arith); adult = unrounded 100 some_years (omega arith) }
+adults_alone e none some_years =
+    record { child = unrounded 0 some_years (omega arith); adult = unrounded 100 some_years (omega arith) }
 
 children_alone : (e : Exposure) → e.adult.years ≡ 0 → 0 < Z e → Unrounded e
-children_alone e none some_years = record { child = unrounded 100 some_years (omega arith); adult = unrounded 0 some_years (omega arith) }
+children_alone e none some_years =
+    record { child = unrounded 100 some_years (omega arith); adult = unrounded 0 some_years (omega arith) }
 
 pub unrounded_shares : UnroundedPromise
 unrounded_shares =

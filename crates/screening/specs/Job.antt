@@ -64,7 +64,12 @@ intake_of job = for_reading intake_answer job
 -- A group is four u16: EF, ED, ET, IRA. ET is in quarter hours.
 abbrev pub group_at : List ℕ → ℕ → Group
 group_at job at =
-    record { days = u16_at job at; years = u16_at job (at + 2); quarter_hours = u16_at job (at + 4); breathing = u16_at job (at + 6) }
+    record {
+      days = u16_at job at;
+      years = u16_at job (at + 2);
+      quarter_hours = u16_at job (at + 4);
+      breathing = u16_at job (at + 6);
+    }
 
 abbrev pub exposure_of : List ℕ → Exposure
 exposure_of job = record { child = group_at job 32; adult = group_at job 40 }

@@ -1,12 +1,15 @@
 -- The grounds for refusing a job with its book, in checking order (document 01, grounds 1 to 18).
 use Rattle.std.specs.Prelude.{ℕ, Bool, not, ◌||◌, ◌&&◌, List, [], ◌∷◌, ◌++◌, length, ltb, eqb}
 use Rattle.refusals.specs.Grounds.{Ground, ground_of, first_met, Checked}
-use Rattle.refusals.specs.declared.Refusal.TheVariants.{JobTooShort, CodeUnknown, RateTooHigh, TargetTooHigh, AttenuationOutOfRange, ExposureOutOfRange, ReadingUnusable, ConcentrationTooHigh}
+use Rattle.refusals.specs.declared.Refusal.TheVariants.{JobTooShort, CodeUnknown, RateTooHigh, TargetTooHigh}
+use Rattle.refusals.specs.declared.Refusal.TheVariants.{AttenuationOutOfRange, ExposureOutOfRange}
+use Rattle.refusals.specs.declared.Refusal.TheVariants.{ReadingUnusable, ConcentrationTooHigh}
 use Rattle.book.specs.BookGrounds.{book_grounds}
 use Rattle.book.specs.Rates.{rate_too_high}
 use Rattle.verdict.specs.Verdict.{max_target}
 use Rattle.reading.specs.Reading.{reading_unusable, concentration_too_high, whole_attenuation}
-use Rattle.screening.specs.Job.{rate, kind, medium, unit, zero_byte, target, attenuation, reading_of, for_reading, exposure_of, job_length}
+use Rattle.screening.specs.Job.{rate, kind, medium, unit, zero_byte, target, attenuation}
+use Rattle.screening.specs.Job.{reading_of, for_reading, exposure_of, job_length}
 use Rattle.exposure.specs.Exposure.{exposure_out_of_range}
 
 -- 2. Kind, medium or unit is not a listed value, or the job's zero byte isn't zero.

@@ -10,7 +10,8 @@ use Rattle.book.specs.Rates.{max_rate, rates_at}
 use Rattle.balance.specs.Chain.{Chain, chain_of}
 use Rattle.balance.specs.Exact.{numerators, numerator, denominator}
 use Rattle.balance.specs.Promises.{FactorPromises}
-use Rattle.reading.specs.Reading.{figure, unusable, whole, max_concentration, reading_unusable, concentration_too_high, whole_answer, intake_checked}
+use Rattle.reading.specs.Reading.{figure, unusable, whole, max_concentration, reading_unusable}
+use Rattle.reading.specs.Reading.{concentration_too_high, whole_answer, intake_checked}
 use Rattle.reading.specs.Promises.{ReadingPromise}
 use Rattle.reading.specs.declared.amounts.Amount.{Amount}
 use Rattle.screening.specs.Job.{rate, rate_length, reading_of, for_reading, intake_of, book_of}
@@ -46,10 +47,11 @@ VerdictPromise by book coefficient v C given =
 abbrev pub AnswerPromise : List ℕ → Result Answer Refusal → Type 0
 AnswerPromise job result =
     (answer : Answer) → result ≡ Ok answer →
-    VerdictPromise (criterion_of job) (book_of job) (coefficient (book_of job)) (rate job) answer.figures.concentration answer.figures.verdict
+    VerdictPromise (criterion_of job) (book_of job) (coefficient (book_of job))
+    (rate job) answer.figures.concentration answer.figures.verdict
 
--- What the working levels of an answer say, by their numbers: they are none's where Fm's divisor is 0, and nowhere else; Fm is at
--- most 1,000,000.
+-- What the working levels of an answer say, by their numbers: they are none's where Fm's divisor is 0, and nowhere
+-- else; Fm is at most 1,000,000.
 pub record LevelsPromise (job : List ℕ) (working : Option WorkingLevels) : Type 0 where
   pub none :
       alpha_at_rest (book_of job) (coefficient (book_of job)) ≡ 0 →
@@ -63,7 +65,8 @@ pub record Demand3 : Type 0 where
   -- over the last member's denominator each numerator is the same fraction as over the member's own
   pub one_denominator :
       (scale : ℕ) (chain : Chain) (rate : ℕ → ℕ) (i k : ℕ) → k ≤ i →
-      get_or (numerators scale chain rate i) k 0 * denominator scale chain rate k ≡ numerator scale chain rate k * denominator scale chain rate i
+      get_or (numerators scale chain rate i) k 0 * denominator scale chain rate k
+      ≡ numerator scale chain rate k * denominator scale chain rate i
   pub verdict :
       (by : Criterion) (book : List ℕ) (coefficient : ℕ → ℕ → ℕ) (v C : ℕ) → Accepted book → v ≤ max_rate →
       VerdictPromise by book coefficient v C (verdict_at (assessment_at by book coefficient v) C)
@@ -71,16 +74,18 @@ pub record Demand3 : Type 0 where
   -- a higher rate never gives a worse verdict
   pub no_worse :
       (by : Criterion) (book : List ℕ) (coefficient : ℕ → ℕ → ℕ) (v w C : ℕ) → Accepted book → v ≤ w → w ≤ max_rate →
-      verdict_order (verdict_at (assessment_at by book coefficient w) C) ≤ verdict_order (verdict_at (assessment_at by book coefficient v) C)
+      verdict_order (verdict_at (assessment_at by book coefficient w) C)
+      ≤ verdict_order (verdict_at (assessment_at by book coefficient v) C)
   -- nor does a job that differs from another in the rate's bytes alone
   pub no_worse_answer :
-      (job other : List ℕ) (answer another : Answer) → drop rate_length job ≡ drop rate_length other → rate job ≤ rate other →
-      answer_of job ≡ Ok answer → answer_of other ≡ Ok another →
+      (job other : List ℕ) (answer another : Answer) → drop rate_length job ≡ drop rate_length other →
+      rate job ≤ rate other → answer_of job ≡ Ok answer → answer_of other ≡ Ok another →
       verdict_order another.figures.verdict ≤ verdict_order answer.figures.verdict
   pub level : (a : Assessment) → LevelPromise a
   -- Fm is at most 1,000,000
   pub equilibrium_at_most_one :
-      (book : List ℕ) (coefficient : ℕ → ℕ → ℕ) (v : ℕ) → Accepted book → v ≤ max_rate → 0 < alpha_at_rest book coefficient →
+      (book : List ℕ) (coefficient : ℕ → ℕ → ℕ) (v : ℕ) →
+      Accepted book → v ≤ max_rate → 0 < alpha_at_rest book coefficient →
       equilibrium (alpha_at book coefficient v) (alpha_at_rest book coefficient) ≤ 1000000
   pub levels : (job : List ℕ) (answer : Answer) → answer_of job ≡ Ok answer → LevelsPromise job answer.figures.working
   -- and its divisor is the sum at rate 0
@@ -104,8 +109,10 @@ pub record Promises : Type 0 where
   pub grounds_of_amount :
       (amount : Amount) →
       intake_checked (whole_answer amount)
-      ≡ first_met (ground_of ReadingUnusable (unusable (figure amount)) ∷ ground_of ConcentrationTooHigh (ltb max_concentration (whole amount)) ∷ [])
+      ≡ first_met (ground_of ReadingUnusable (unusable (figure amount))
+      ∷ ground_of ConcentrationTooHigh (ltb max_concentration (whole amount)) ∷ [])
   pub grounds_of_reading :
       (job : List ℕ) →
       intake_checked (intake_of job)
-      ≡ first_met (ground_of ReadingUnusable (reading_unusable (reading_of job)) ∷ ground_of ConcentrationTooHigh (for_reading concentration_too_high job) ∷ [])
+      ≡ first_met (ground_of ReadingUnusable (reading_unusable (reading_of job))
+      ∷ ground_of ConcentrationTooHigh (for_reading concentration_too_high job) ∷ [])

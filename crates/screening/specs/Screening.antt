@@ -36,7 +36,8 @@ alpha_at book coefficient v = alpha_sum (members book) coefficient (factor_at bo
 
 -- Fm's divisor: the same with every member's rate 0.
 abbrev pub alpha_at_rest : List ℕ → (ℕ → ℕ → ℕ) → ℕ
-alpha_at_rest book coefficient = alpha_sum (members book) coefficient (reported_factor (scale_of book) (chain_of book) (λ i. 0))
+alpha_at_rest book coefficient =
+    alpha_sum (members book) coefficient (reported_factor (scale_of book) (chain_of book) (λ i. 0))
 
 -- At a rate and a concentration.
 unfoldable pub figures_at : Criterion → List ℕ → (ℕ → ℕ → ℕ) → ℕ → ℕ → Figures
@@ -45,7 +46,8 @@ figures_at by book coefficient v C =
       concentration = C;
       verdict = verdict_at (assessment_at by book coefficient v) C;
       level = level (assessment_at by book coefficient v);
-      working = working_levels (alpha_at book coefficient v) (alpha_at_rest book coefficient) C (working_level_divisor book);
+      working =
+          working_levels (alpha_at book coefficient v) (alpha_at_rest book coefficient) C (working_level_divisor book);
     }
 
 -- The factors stand as the factor call leaves them in a list of zeros.
@@ -59,7 +61,8 @@ screened_at by book coefficient v C =
 
 -- An accepted job has its figures and factors; a refusal returns the refusal alone.
 abbrev pub answer_for : Checked → List ℕ → List ℕ → Result Answer Refusal
-answer_for (Ok _) job book = Ok (screened_at (criterion_of job) book (coefficient book) (rate job) (concentration_of job))
+answer_for (Ok _) job book =
+    Ok (screened_at (criterion_of job) book (coefficient book) (rate job) (concentration_of job))
 answer_for (Err refusal) job book = Err refusal
 
 abbrev pub answer_with : List ℕ → List ℕ → Result Answer Refusal

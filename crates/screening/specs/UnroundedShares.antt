@@ -1,5 +1,6 @@
--- Yearly dose as document 01 had it before document 02's R-2, in the quarter hours of R-1: the years themselves in X and Y, and Z in B.
--- No room is judged by these any more. They say that R-2 differs from them by the rounding of the shares alone, at the end.
+-- Yearly dose as document 01 had it before document 02's R-2, in the quarter hours of
+-- R-1: the years themselves in X and Y, and Z in B. No room is judged by these any more.
+-- They say that R-2 differs from them by the rounding of the shares alone, at the end.
 use Rattle.std.specs.Prelude.{ℕ, ◌*◌, ◌^◌, ◌<◌, ◌≡◌, List, Ok}
 use Rattle.book.specs.Fields.{members, coefficient}
 use Rattle.balance.specs.Balance.{G}
@@ -25,11 +26,17 @@ years_bound e target = target * Z e * 37 * (4 * 8760) * 10 ^ 7 * G
 -- What the verdict was reached on.
 abbrev pub years_assessment : Exposure → ℕ → List ℕ → (ℕ → ℕ → ℕ) → ℕ → Assessment
 years_assessment e target book coefficient v =
-    record { count = members book; weight = weight_of (years_criterion e target) coefficient; factor = factor_at book v; bound = years_bound e target }
+    record {
+      count = members book;
+      weight = weight_of (years_criterion e target) coefficient;
+      factor = factor_at book v;
+      bound = years_bound e target;
+    }
 
 -- The same of a job.
 abbrev pub years_assessment_of : List ℕ → Assessment
-years_assessment_of job = years_assessment (exposure_of job) (target job) (book_of job) (coefficient (book_of job)) (rate job)
+years_assessment_of job =
+    years_assessment (exposure_of job) (target job) (book_of job) (coefficient (book_of job)) (rate job)
 
 -- Each group's share is 100 × ED / Z itself.
 pub record Unrounded (e : Exposure) : Type 0 where
@@ -40,10 +47,12 @@ pub record UnroundedPromise : Type 0 where
   -- where no share is rounded, verdict and level are document 01's
   pub judged :
       (e : Exposure) (target : ℕ) (book : List ℕ) (coefficient : ℕ → ℕ → ℕ) (v : ℕ) → 0 < Z e → Unrounded e →
-      Unchanged (years_assessment e target book coefficient v) (assessment_at (criterion_for Kind.Dose e target) book coefficient v)
+      Unchanged (years_assessment e target book coefficient v)
+      (assessment_at (criterion_for Kind.Dose e target) book coefficient v)
   -- and so they stand in the answer to the job
   pub answer :
-      (job : List ℕ) (answer : Answer) → kind_of (kind job) ≡ Kind.Dose → Unrounded (exposure_of job) → answer_of job ≡ Ok answer →
+      (job : List ℕ) (answer : Answer) →
+      kind_of (kind job) ≡ Kind.Dose → Unrounded (exposure_of job) → answer_of job ≡ Ok answer →
       (answer.figures.verdict ≡ verdict_at (years_assessment_of job) answer.figures.concentration)
       × (answer.figures.level ≡ level (years_assessment_of job))
   -- no share is rounded in a room that has one group

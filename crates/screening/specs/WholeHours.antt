@@ -25,16 +25,19 @@ hours_assessment kind e target book coefficient v =
 -- The same of a job whose exposure is this one.
 abbrev pub hours_assessment_of : List ℕ → HoursExposure → Assessment
 hours_assessment_of job e =
-    hours_assessment (criterion_of job).kind e (criterion_of job).target (book_of job) (coefficient (book_of job)) (rate job)
+    hours_assessment (criterion_of job).kind e (criterion_of job).target (book_of job)
+    (coefficient (book_of job)) (rate job)
 
 -- Restated in quarter hours, it comes out as these formulas have it, which for risk are document 01's own.
 pub record WholeHoursPromise : Type 0 where
   -- verdict and level are as they were, within the limits or not
   pub judged :
       (kind : Kind) (e : HoursExposure) (target : ℕ) (book : List ℕ) (coefficient : ℕ → ℕ → ℕ) (v : ℕ) →
-      Unchanged (hours_assessment kind e target book coefficient v) (assessment_at (criterion_for kind (in_quarters e) target) book coefficient v)
+      Unchanged (hours_assessment kind e target book coefficient v)
+      (assessment_at (criterion_for kind (in_quarters e) target) book coefficient v)
   -- and so they stand in the answer to the job
   pub answer :
-      (job : List ℕ) (e : HoursExposure) (answer : Answer) → exposure_of job ≡ in_quarters e → answer_of job ≡ Ok answer →
+      (job : List ℕ) (e : HoursExposure) (answer : Answer) →
+      exposure_of job ≡ in_quarters e → answer_of job ≡ Ok answer →
       (answer.figures.verdict ≡ verdict_at (hours_assessment_of job e) answer.figures.concentration)
       × (answer.figures.level ≡ level (hours_assessment_of job e))

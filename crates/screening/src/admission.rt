@@ -10,8 +10,8 @@ use book::check_book;
 use refusals::Refusal;
 use verdict::Criterion;
 
-// What a room is screened on. That its numbers are within their limits is `Screenable`, in the contracts of those who take
-// it: a ghost field here would put a proof into the definition of what `admit` answers.
+// What a room is screened on. That its numbers are within their limits is `Screenable`, in the contracts of those who
+// take it: a ghost field here would put a proof into the definition of what `admit` answers.
 #[derive(Clone, Copy)]
 pub struct ScreeningInput {
     pub by: Criterion,

@@ -27,7 +27,7 @@ fn code_unknown(job: &[u8]) -> bool
 }
 
 // Ground 5.
-#[tactic(auto, using(crate::proofs::CodesTaken::indoor_air), unfolding(crate::specs::JobGrounds::attenuation_out_of_range))]
+#[tactic(auto, using(crate::proofs::CodesTaken::indoor), unfolding(crate::specs::JobGrounds::attenuation_out_of_range))]
 fn attenuation_out_of_range(job: &[u8]) -> bool
     ensures { result ≡ attenuation_out_of_range job.now }
 {

@@ -50,9 +50,9 @@ fn figures_of(
     }
 }
 
-// The verdict at a rate on what a room is judged by and on its concentration, with the members' numbers that are
-// lent, in the array's first places. The book's chain is passed too, so that it is read once for however many rates. What
-// a room is judged by and its concentration stay two, as in the definitions: a level is sought over every concentration.
+// The verdict at a rate on what a room is judged by and on its concentration, with the members' numbers that are lent,
+// in the array's first places. The book's chain is passed too, so that it is read once for however many rates. What a
+// room is judged by and its concentration stay two, as in the definitions: a level is sought over every concentration.
 pub fn verdict_at(
     by: Criterion,
     v: Rate,

@@ -13,8 +13,8 @@ use Rattle.refusals.proofs.FirstMet.{first_of_both, not_met, both_pass, neither}
 use Rattle.numbers.proofs.NoneMet.{none_below}
 use Rattle.book.specs.Rates.{max_rate}
 use Rattle.book.specs.BookGrounds.{book_grounds, Accepted}
-use Rattle.tables.specs.Answers.{max_rates, some_rate_too_high, rate_count_out_of_range, buffer_too_short, earlier_grounds}
-use Rattle.tables.specs.Answers.{table_grounds}
+use Rattle.tables.specs.Answers.{max_rates, some_rate_too_high, rate_count_out_of_range}
+use Rattle.tables.specs.Answers.{buffer_too_short, earlier_grounds, table_grounds}
 use Rattle.tables.specs.Private.Tabulable.{Tabulable}
 
 -- What a check for room finds.

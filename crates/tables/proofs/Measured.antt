@@ -16,7 +16,8 @@ use Rattle.tables.proofs.RateLine.{line_length}
 use Rattle.tables.proofs.Promised.{table_fits}
 
 module _
-    (book : List ℕ) (accepted : Accepted book) {rates : List ℕ} {i total rate digits count : ℕ} (given : Tabulable rates)
+    (book : List ℕ) (accepted : Accepted book) {rates : List ℕ} {i total rate digits count : ℕ}
+    (given : Tabulable rates)
     (turn : i < length rates) (is : rate ≡ get_or rates i 0) (counted : digits ≡ length (decimal rate))
     (listed : count ≡ members book) (so_far : total ≡ length (each (rate_line book) 0 (take i rates))) where
   line : digits + (count * 10 + 1) ≡ length (rate_line book i (get_or rates i 0))

@@ -59,7 +59,8 @@ was_short false e = cc
 module _ (rates book : List ℕ) (capacity : ℕ) where
   within : (n : ℕ) → answer_number (table_answer rates book capacity) ≡ pos n → (n ≤ capacity) × (n ≤ table_room)
   within n answered =
-      let answer = filled_passed (first_met (table_grounds rates book capacity)) (length (table_text book rates)) n answered in
+      let answer =
+      filled_passed (first_met (table_grounds rates book capacity)) (length (table_text book rates)) n answered in
       let both = both_pass (first_met (earlier_grounds rates book)) _ (sym (in_two rates book capacity) ∙ answer.0) in
       let not-short = not_met (buffer_too_short rates book capacity) _ _ both.1 in
       let capacity-for-all = ltb-false capacity (length (table_text book rates)) not-short.0 in
@@ -69,12 +70,15 @@ module _ (rates book : List ℕ) (capacity : ℕ) where
 
   enough : table_room ≤ capacity → answer_number (table_answer rates book capacity) ≡ refused_number BufferTooShort → ⊥
   enough large answered =
-      let refused = tabled_refused (first_met (table_grounds rates book capacity)) (length (table_text book rates)) answered in
+      let refused =
+      tabled_refused (first_met (table_grounds rates book capacity)) (length (table_text book rates)) answered in
       let found =
-      from_last (first_met (earlier_grounds rates book)) (λ e. other_number 21 (earlier_grounds rates book) refl e refused.2)
+      from_last (first_met (earlier_grounds rates book))
+      (λ e. other_number 21 (earlier_grounds rates book) refl e refused.2)
       (sym (in_two rates book capacity) ∙ refused.1)
       in
-      let short = ltb-true capacity (length (table_text book rates)) (was_short (buffer_too_short rates book capacity) found.1) in
+      let short =
+      ltb-true capacity (length (table_text book rates)) (was_short (buffer_too_short rates book capacity) found.1) in
       let checked = passed rates book found.0 in
       omega (arith, table_fits rates book checked.0 checked.1)
 

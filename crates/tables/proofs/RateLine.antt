@@ -46,7 +46,8 @@ module _ (book : List ℕ) (accepted : Accepted book) (v : ℕ) where
   pub factors_left :
       {n : ℕ} {list : List ℕ} → n ≡ members book →
       list ≡ factors_at book v ++ drop (members book) (replicate max_members 0) → take n list ≡ factors_at book v
-  factors_left counted is = rw (is, counted) (take_at (factors_at book v) _ (members book) (factors_length book v accepted))
+  factors_left counted is =
+      rw (is, counted) (take_at (factors_at book v) _ (members book) (factors_length book v accepted))
 
 -- What the line is made of once the call has left its factors in the array.
 pub ruleset left = (few_members, factors_left, none_above_parent, length-take-le)

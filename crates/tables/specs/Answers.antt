@@ -45,8 +45,10 @@ table_grounds rates book capacity =
 
 -- Accepted, the call answers the text's length.
 abbrev pub table_answer : List ℕ → List ℕ → ℕ → Result ℕ Refusal
-table_answer rates book capacity = answer_if (first_met (table_grounds rates book capacity)) (length (table_text book rates))
+table_answer rates book capacity =
+    answer_if (first_met (table_grounds rates book capacity)) (length (table_text book rates))
 
 -- Bytes past the text are untouched, and a refusal touches none.
 abbrev pub table_buffer : List ℕ → List ℕ → List ℕ → List ℕ
-table_buffer rates book list = written_if (first_met (table_grounds rates book (length list))) (table_text book rates) list
+table_buffer rates book list =
+    written_if (first_met (table_grounds rates book (length list))) (table_text book rates) list

@@ -7,8 +7,8 @@ use book::AcceptedChain;
 use entry::ENTRY_LENGTH;
 use text::decimal_length;
 
-// Counted by itself: handing the lines to a sink that counts would work out the factors of each twice, and what a further
-// rate takes has a limit, which that passes.
+// Counted by itself: handing the lines to a sink that counts would work out the factors of each twice, and what a
+// further rate takes has a limit, which that passes.
 #[tactic(auto, using(crate::proofs::Measured::counting))]
 pub(crate) fn table_length(rates: &[u32], chain: AcceptedChain<'_>) -> usize
     requires { Tabulable rates.now }

@@ -34,8 +34,8 @@ pub fn tabulate(rates: &[u32], book: &[u8], out: &mut [u8]) -> Result<usize, Ref
     write_table(rates, AcceptedChain { chain: &chain }, out)
 }
 
-// The text's length is known before a byte is written. `Tabulable` stays a clause here and in what is called: a struct that
-// lends the rates has two values in an `ensures`, so that each clause would say `rates.entry.list.now`.
+// The text's length is known before a byte is written. `Tabulable` stays a clause here and in what is called: a struct
+// that lends the rates has two values in an `ensures`, so that each clause would say `rates.entry.list.now`.
 fn write_table(rates: &[u32], chain: AcceptedChain<'_>, out: &mut [u8]) -> Result<usize, Refusal>
     requires { Tabulable rates.now }
     ensures answered { let text = table_text chain.entry.chain.now.bytes.now rates.now in

@@ -54,7 +54,8 @@ fn put_entries<S: Sink>(sink: &mut S, factors: &[u64])
     }
 }
 
-// A factor is a plain u64, as in the lists that callers lend; that it is at most G is asked here, in `entry` and in `verdict`.
+// A factor is a plain u64, as in the lists that callers lend;
+// that it is at most G is asked here, in `entry` and in `verdict`.
 fn put_entry<S: Sink>(sink: &mut S, factor: u64)
     requires fits { length (spaced_entry 0 factor) ≤ S.room sink.old }
     requires factor_bound { factor ≤ G }

@@ -68,7 +68,8 @@ module _ {test : ℕ → Bool} {end r : ℕ} (told : (k : ℕ) → k < end → t
   unfolding first_rate
   passed_over zero v e l within = absurd (omega arith)
   passed_over (suc more) v e l within =
-      rw (told v (omega arith)) (by_order v (leb r v) refl l (λ less. passed_over more (suc v) (omega arith) less within))
+      rw (told v (omega arith))
+      (by_order v (leb r v) refl l (λ less. passed_over more (suc v) (omega arith) less within))
 
   none_left : (more v : ℕ) → v + more ≡ end → end ≤ r → first_rate test v more ≡ None
   unfolding first_rate

@@ -43,12 +43,15 @@ module _ (job : List ℕ) where
   of_found :
       (answer : Option ℕ) → First test 0 (suc max_rate) answer → Accepted (book_of job) → LowestPromise job (Ok answer)
   of_found (Some r) found accepted =
-      let rises = below_rises (criterion_of job) (book_of job) (coefficient (book_of job)) (concentration_of job) accepted in
+      let rises =
+      below_rises (criterion_of job) (book_of job) (coefficient (book_of job)) (concentration_of job) accepted in
       let is-rate : (v : ℕ) → pos r ≡ pos v → r ≡ v = λ v is. cc in
       record {
         rate_within = λ v is. omega (arith, found.within, is-rate v (ap lowest_number is));
         within = λ v is. omega (arith, found.within, is-rate v is);
-        is_below = λ v is low. subst (λ u. verdict_on job u ≡ Below) (is-rate v is) (told_below (verdict_on job r) found.holds);
+        is_below =
+            λ v is low. subst (λ u. verdict_on job u ≡ Below) (is-rate v is)
+            (told_below (verdict_on job r) found.holds);
         lowest = λ v w is low less. told_other (found.fails w (omega arith) (omega (arith, is-rate v is)));
         stays_below = λ v w is low over within.
             told_below (verdict_on job w) (rises.stays r w (omega (arith, is-rate v is)) (omega arith) found.holds);
@@ -91,7 +94,8 @@ number_passed :
 number_passed (Ok tt) job v is = refl
 number_passed (Err refusal) job v is = absurd (no_count refusal v is)
 
-at_answer : (job : List ℕ) (v : ℕ) → lowest_number (lowest_of job) ≡ pos v → v ≤ max_rate → Judged (with_rate v job) Below
+at_answer : (job : List ℕ) (v : ℕ) → lowest_number (lowest_of job) ≡ pos v → v ≤ max_rate →
+    Judged (with_rate v job) Below
 at_answer job v is low =
     let passed = number_passed (checked_job job (book_of job)) job v is in
     subst (Judged (with_rate v job)) ((lowest_promise job).is_below v is low) (at_rate job v passed low)

@@ -45,7 +45,8 @@ judged_at_own_rate :
 unfolding figures_at
 judged_at_own_rate job verdict passed given =
     record {
-      answer = screened_at (criterion_of job) (book_of job) (coefficient (book_of job)) (rate job) (concentration_of job);
+      answer =
+          screened_at (criterion_of job) (book_of job) (coefficient (book_of job)) (rate job) (concentration_of job);
       accepted = ap (λ c. answer_for c job (book_of job)) passed;
       given = given;
     }

@@ -64,9 +64,10 @@ by_book {by} {v} {C} {r} {book} {array = array} asked held span k less =
 pub searched_is :
     (job : List ℕ) {input : ScreeningInput} {answer : Option ℕ} → checked_job job (book_of job) ≡ Ok tt →
     input ≡ input_of job →
-    answer ≡ first_rate (below_at input.by (book_of job) (coefficient (book_of job)) input.concentration) 0 (suc max_rate) →
-    Ok answer ≡ lowest_of job
+    answer ≡ first_rate (below_at input.by (book_of job) (coefficient (book_of job)) input.concentration) 0
+    (suc max_rate) → Ok answer ≡ lowest_of job
 searched_is job passed is answer =
     ap Ok answer
-    ∙ ap (λ r. Ok (first_rate (below_at r.by (book_of job) (coefficient (book_of job)) r.concentration) 0 (suc max_rate))) is
+    ∙ ap
+    (λ r. Ok (first_rate (below_at r.by (book_of job) (coefficient (book_of job)) r.concentration) 0 (suc max_rate))) is
     ∙ ap (λ found. lowest_for found job) (sym passed)

@@ -35,8 +35,8 @@ abbrev pub lowest_for : Checked → List ℕ → Result (Option ℕ) Refusal
 lowest_for (Ok _) job = Ok (lowest_rate job)
 lowest_for (Err refusal) job = Err refusal
 
--- The number of an answer, as every caller gets it: the rate, one more than the highest where there is none, or minus the
--- number of the refusal.
+-- The number of an answer, as every caller gets it: the rate,
+-- one more than the highest where there is none, or minus the number of the refusal.
 abbrev pub no_rate : ℕ
 no_rate = suc max_rate
 

@@ -26,8 +26,8 @@ pub record LowestPromise (job : List ℕ) (answer : Result (Option ℕ) Refusal)
 
 pub record VentilationPromises : Type 0 where
   pub lowest : (job : List ℕ) → LowestPromise job (lowest_of job)
-  -- in bytes: a job that passes its checks passes them with any other rate written into it, and the verdict is then that
-  -- at this rate
+  -- in bytes: a job that passes its checks passes them with any other rate written into it,
+  -- and the verdict is then that at this rate
   pub at_rate :
       (job : List ℕ) (w : ℕ) → checked_job job (book_of job) ≡ Ok tt → w ≤ max_rate →
       Judged (with_rate w job) (verdict_on job w)

@@ -37,7 +37,8 @@ fn failing_rates(
 // The lowest rate for a room whose book is checked. The book is read once, and its arrays are lent.
 pub(crate) fn lowest_for(input: ScreeningInput, book: &[u8]) -> Option<u32>
     requires { Screenable input.by input.rate input.concentration book.now }
-    ensures { result ≡ first_rate (below_at input.by book.now (coefficient book.now) input.concentration) 0 (suc max_rate) }
+    ensures { result ≡ first_rate (below_at input.by book.now (coefficient book.now) input.concentration) 0
+        (suc max_rate) }
 {
     let held = read_chain(book);
     let numbers = read_numbers(book);

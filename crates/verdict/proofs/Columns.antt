@@ -59,7 +59,12 @@ alpha_column [] (f ∷ fs) first e same fits = absurd (omega arith)
 alpha_column (row ∷ rows) (f ∷ fs) first e same fits =
     let one : first ≡ 1 = omega arith in
     let others : suc (length fs) - 1 ≡ length fs = omega arith in
-    rw (one, take_all (suc (length rows) - 1) rows (omega arith), take_all (suc (length fs) - 1) fs (omega arith), others)
+    rw (
+      one,
+      take_all (suc (length rows) - 1) rows (omega arith),
+      take_all (suc (length fs) - 1) fs (omega arith),
+      others,
+    )
     (sum_same (length fs)
     (λ i l. ap (λ f. number_in rows i alpha_weight * f)
     (uncapped (get_or fs i 0) i (2 ^ 64 - 1) (omega (arith, (fits (suc i)).fits)))))

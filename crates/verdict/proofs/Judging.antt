@@ -45,7 +45,8 @@ module _ (by : Criterion) (coefficients : List (List ℕ)) (factors : List ℕ) 
       }
 
 -- The sums are small enough for their products with a concentration to be exact.
-pub product_exact : {sum C product : ℕ} → sum ≤ 2 ^ 117 → C ≤ max_level → product ≡ sum * C % modulus → product ≡ C * sum
+pub product_exact : {sum C product : ℕ} → sum ≤ 2 ^ 117 → C ≤ max_level → product ≡ sum * C % modulus →
+    product ≡ C * sum
 product_exact fits small e = exact_multiple e fits small (lit< tt) ∙ omega arith
 
 module _ {a : Assessment} {lows highs B : ℕ} (sums : SumsOf a lows highs B) where

@@ -2,7 +2,8 @@
 use Rattle.std.specs.Prelude.{ℕ, ◌+◌, ◌*◌, ◌^◌, ◌≤◌, ◌<◌, min, ◌≡◌, List, [], length, get_or}
 use Rattle.book.specs.Limits.{max_members}
 use Rattle.balance.specs.Balance.{G}
-use Rattle.verdict.specs.Verdict.{Assessment, assessment_by, weight_of, max_target, low, high, verdict_at, max_level, level}
+use Rattle.verdict.specs.Verdict.{Assessment, assessment_by, weight_of, max_target}
+use Rattle.verdict.specs.Verdict.{low, high, verdict_at, max_level, level}
 use Rattle.verdict.specs.WorkingLevels.{alpha_sum}
 use Rattle.verdict.specs.declared.verdict.Criterion.{Criterion}
 use Rattle.verdict.specs.declared.verdict.Judgement.{Judgement}

@@ -50,7 +50,8 @@ pub record AssessmentPromises : Type 0 where
       VerdictPromise a P x C (verdict_at a C)
   pub level : (a : Assessment) → LevelPromise a
   -- where no factor is larger no verdict is worse
-  pub no_worse : (a b : Assessment) (C : ℕ) → NoLarger a b → verdict_order (verdict_at b C) ≤ verdict_order (verdict_at a C)
+  pub no_worse : (a b : Assessment) (C : ℕ) → NoLarger a b →
+      verdict_order (verdict_at b C) ≤ verdict_order (verdict_at a C)
   -- every weight and B times the same k above 0 leave verdict and level as they were
   pub common_factor : (k : ℕ) (a b : Assessment) → 0 < k → CommonFactor k a b → Unchanged a b
   -- and so does an exposure in whole hours, restated in quarter hours

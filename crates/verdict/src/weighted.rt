@@ -53,8 +53,8 @@ pub(crate) fn widened(sum: u128) -> Wide
     in_grains(upper, WORD_OF_GRAINS).wrapping_add(Wide::from(lower))
 }
 
-// Low at one mBq/m³ with margin 0, High with margin 2. By columns, so that what the members have in common is multiplied
-// once.
+// Low at one mBq/m³ with margin 0, High with margin 2.
+// By columns, so that what the members have in common is multiplied once.
 #[tactic(auto, using(crate::proofs::Columns::by_columns))]
 pub(crate) fn weighted_sum(
     by: Criterion,

@@ -1,6 +1,7 @@
 -- The chain of carries from the last column up: what a column passes on counts in the next, so the limbs that stay,
 -- with the carry as one more on top, are worth the columns.
-use Rattle.std.proofs.Common.{◌≡◌, ℕ, suc, ◌+◌, ◌*◌, ◌/◌, ◌%◌, ◌^◌, ◌<◌, List, [], ◌∷◌, ◌++◌, length, reverse, sym, ap, ◌∙◌, ◌≤◌, get_or, set, drop, drop-cons, arith}
+use Rattle.std.proofs.Common.{◌≡◌, ℕ, suc, ◌+◌, ◌*◌, ◌/◌, ◌%◌, ◌^◌, ◌<◌, List, [], ◌∷◌, ◌++◌, length}
+use Rattle.std.proofs.Common.{reverse, sym, ap, ◌∙◌, ◌≤◌, get_or, set, drop, drop-cons, arith}
 use Rattle.std.proofs.Math.Nat.{pow-succ'}
 use native.Mathlib.Numerals.{add-one}
 use Rattle.std.proofs.lemmas.List.{reverse-append, length-reverse, length-drop, length-set, drop-set}

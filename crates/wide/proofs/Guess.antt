@@ -1,7 +1,8 @@
 -- One digit of a long division by a divisor of two halves whose top bit is set. Dividing by the upper half alone gives
 -- a guess; what is left of the dividend then lacks the guess times the lower half. That is below 2^64, so at most twice
 -- the divisor, and the guess is at most 2 too large.
-use Rattle.std.proofs.Common.{◌≡◌, ℕ, ◌+◌, ◌-◌, ◌*◌, ◌/◌, ◌%◌, ◌^◌, ◌<◌, ◌≤◌, sym, ap, mod-lt, mul-le-mul, lt_of_mul-lt-mul_right, div-add-mod', sub-add_cancel, arith}
+use Rattle.std.proofs.Common.{◌≡◌, ℕ, ◌+◌, ◌-◌, ◌*◌, ◌/◌, ◌%◌, ◌^◌, ◌<◌, ◌≤◌, sym, ap, mod-lt, mul-le-mul}
+use Rattle.std.proofs.Common.{lt_of_mul-lt-mul_right, div-add-mod', sub-add_cancel, arith}
 
 -- The dividend is `top` times 2^32 plus `next`, the divisor `v` has the halves `v1` and `v0`,
 -- and `top` divided by `v1` gives `g` and leaves `r`.

@@ -1,6 +1,7 @@
 -- The capped quotient is one number: where b is not 0, the smaller of the cap and a / b.
 -- Each of two largest factors is at most the other.
-use Rattle.std.proofs.Common.{◌≡◌, ℕ, ◌/◌, ◌<◌, min, le_trans, mul-le-mul_right, le_antisymm, le-div_iff_mul-le, div-mul-le_self}
+use Rattle.std.proofs.Common.{◌≡◌, ℕ, ◌/◌, ◌<◌, min, le_trans, mul-le-mul_right}
+use Rattle.std.proofs.Common.{le_antisymm, le-div_iff_mul-le, div-mul-le_self}
 use native.Mathlib.Nat.{min-le_left, min-le_right, le-min}
 use Rattle.wide.specs.Quotient.{LargestQuotient}
 

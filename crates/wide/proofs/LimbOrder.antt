@@ -1,6 +1,7 @@
--- The order of two numbers is that of their limbs, the highest first: where the numbers above a limb differ they decide,
--- since the limb is worth less than one of them.
-use Rattle.std.proofs.Common.{Ordering, Less, Equal, Greater, ◌≡◌, ◌==◌, ℕ, ◌+◌, ◌*◌, ◌^◌, ◌<◌, List, get_or, refl, ap, subst, ◌∙◌, arith}
+-- The order of two numbers is that of their limbs, the highest first: where the numbers above a limb differ they
+-- decide, since the limb is worth less than one of them.
+use Rattle.std.proofs.Common.{Ordering, Less, Equal, Greater, ◌≡◌, ◌==◌, ℕ, ◌+◌, ◌*◌}
+use Rattle.std.proofs.Common.{◌^◌, ◌<◌, List, get_or, refl, ap, subst, ◌∙◌, arith}
 use Rattle.std.proofs.lemmas.Cmp.{ranked}
 use Rattle.std.specs.Cmp.{nat_cmp_is, unsigned_ties, unsigned_tied}
 use Rattle.std.specs.Cmp.Derive.{then_next}
@@ -58,7 +59,8 @@ module _ {a b : List ℕ} (s : SixLimbs a) (t : SixLimbs b) where
   listed_order : slice_cmp nat_cmp (listed a) (listed b) ≡ nat_cmp (number (listed a)) (number (listed b))
   listed_order =
       regrouped (here 0) (here 1) (here 2) (here 3) (here 4) (here 5)
-      ∙ at_limb 5 _ _ _ (at_limb 4 _ _ _ (at_limb 3 _ _ _ (at_limb 2 _ _ _ (at_limb 1 _ _ _ (at_limb 0 0 0 Equal refl)))))
+      ∙ at_limb 5 _ _ _
+      (at_limb 4 _ _ _ (at_limb 3 _ _ _ (at_limb 2 _ _ _ (at_limb 1 _ _ _ (at_limb 0 0 0 Equal refl)))))
 
   pub order_is : slice_cmp nat_cmp a b ≡ nat_cmp (number a) (number b)
   order_is =

@@ -1,6 +1,7 @@
 -- The value of a list of limbs is linear: a list of sums has the sum of the values, and a list of multiples the
 -- multiple. An array of six is the list of its six elements, so both hold of arrays that are read element by element.
-use Rattle.std.proofs.Common.{◌≡◌, ℕ, ◌+◌, ◌*◌, List, [], ◌∷◌, length, get_or, reverse, sym, refl, ap, ◌∙◌, ap₂, ◌<◌, arith}
+use Rattle.std.proofs.Common.{◌≡◌, ℕ, ◌+◌, ◌*◌, List, [], ◌∷◌, length, get_or}
+use Rattle.std.proofs.Common.{reverse, sym, refl, ap, ◌∙◌, ap₂, ◌<◌, arith}
 use Rattle.wide.specs.Value.{value}
 use Rattle.wide.specs.Limbs.{number, listed, listed_same}
 
@@ -29,7 +30,14 @@ pub sum_columns : (a b s : List ℕ) → length a ≡ 6 → length b ≡ 6 → l
     → ((k : ℕ) → k < 6 → get_or s k 0 ≡ get_or a k 0 + get_or b k 0) → number s ≡ number a + number b
 sum_columns a b s ha hb hs e =
     ap number (sym (listed_same s hs))
-    ∙ rw (e 0 (omega arith), e 1 (omega arith), e 2 (omega arith), e 3 (omega arith), e 4 (omega arith), e 5 (omega arith))
+    ∙ rw (
+      e 0 (omega arith),
+      e 1 (omega arith),
+      e 2 (omega arith),
+      e 3 (omega arith),
+      e 4 (omega arith),
+      e 5 (omega arith),
+    )
     (value_sums (reverse (listed a)) (reverse (listed b)))
     ∙ ap₂ (λ (x y : List ℕ). number x + number y) (listed_same a ha) (listed_same b hb)
 
@@ -38,6 +46,13 @@ pub multiple_columns : (a s : List ℕ) (k : ℕ) → length a ≡ 6 → length 
     → ((i : ℕ) → i < 6 → get_or s i 0 ≡ get_or a i 0 * k) → number s ≡ number a * k
 multiple_columns a s k ha hs e =
     ap number (sym (listed_same s hs))
-    ∙ rw (e 0 (omega arith), e 1 (omega arith), e 2 (omega arith), e 3 (omega arith), e 4 (omega arith), e 5 (omega arith))
+    ∙ rw (
+      e 0 (omega arith),
+      e 1 (omega arith),
+      e 2 (omega arith),
+      e 3 (omega arith),
+      e 4 (omega arith),
+      e 5 (omega arith),
+    )
     (value_multiples k (reverse (listed a)))
     ∙ ap (λ (x : List ℕ). number x * k) (listed_same a ha)

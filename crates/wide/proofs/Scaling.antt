@@ -1,6 +1,8 @@
 -- A dividend of two words and its divisor, both times 2^s: the quotient stays, and the high word takes in the bits
 -- that leave the low word.
-use Rattle.std.proofs.Common.{◌≡◌, ℕ, ◌+◌, ◌-◌, ◌*◌, ◌/◌, ◌%◌, ◌^◌, ◌<◌, ◌≤◌, sym, ap, ◌∙◌, lt_trans, mul-le-mul_right, mod-eq_of_lt, div-lt_iff_lt-mul, lt_of_mul-lt-mul_right, mul-lt-mul_of_pos_right, div-add-mod', sub-add_cancel, arith, pow_pos, pow-add}
+use Rattle.std.proofs.Common.{◌≡◌, ℕ, ◌+◌, ◌-◌, ◌*◌, ◌/◌, ◌%◌, ◌^◌, ◌<◌, ◌≤◌, sym, ap, ◌∙◌, lt_trans, mul-le-mul_right}
+use Rattle.std.proofs.Common.{mod-eq_of_lt, div-lt_iff_lt-mul, lt_of_mul-lt-mul_right, mul-lt-mul_of_pos_right}
+use Rattle.std.proofs.Common.{div-add-mod', sub-add_cancel, arith, pow_pos, pow-add}
 use native.Mathlib.Nat.{div-div-eq-div-mul, mul-div-mul_right}
 
 -- 2^64 as the product of the scale and of what the low word is divided by to find the bits that leave it

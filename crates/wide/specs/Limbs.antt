@@ -1,5 +1,6 @@
 -- The six limbs that a number is held in, the highest first.
-use Rattle.std.specs.Prelude.{ℕ, zero, suc, ◌+◌, ◌*◌, ◌/◌, ◌%◌, ◌^◌, ◌<◌, ◌≡◌, refl, List, [], ◌∷◌, length, reverse, get_or}
+use Rattle.std.specs.Prelude.{ℕ, zero, suc, ◌+◌, ◌*◌, ◌/◌, ◌%◌, ◌^◌, ◌<◌, ◌≡◌}
+use Rattle.std.specs.Prelude.{refl, List, [], ◌∷◌, length, reverse, get_or}
 use Rattle.std.proofs.Common.{w32, Fits, drop, sym, ap, ap₂, subst, ◌∙◌, arith, drop-cons}
 use lib.Seq.{drop-length}
 use Rattle.wide.specs.Value.{value}

@@ -5,7 +5,8 @@ use crate::digit::digit;
 use crate::product::product;
 
 // f times k, divided by d and rounded down, modulo 2^64: 0 where d is 0.
-// Not `products_quotient` with a product of 0: as one function a factor call takes 13,135 instructions, past its limit of 12,500.
+// Not `products_quotient` with a product of 0:
+// as one function a factor call takes 13,135 instructions, past its limit of 12,500.
 pub fn product_quotient(f: u64, k: u64, d: u64) -> u64
     ensures { result ≡ f * k / d % 2 ^ 64 }
 {

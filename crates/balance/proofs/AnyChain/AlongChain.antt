@@ -1,4 +1,5 @@
--- Induction along a chain: a member is fed by earlier ones, so what the parent has and each member takes over from all the earlier ones, all have.
+-- Induction along a chain: a member is fed by earlier ones,
+-- so what the parent has and each member takes over from all the earlier ones, all have.
 use Prim.Native.Nat.{ℕ, zero, suc, ◌≤◌, ◌<◌}
 use native.Mathlib.Nat.{le_refl, eq-or-lt_of_le, le_of_suc-le-suc}
 use native.Mathlib.Omega.{arith}

@@ -1,5 +1,6 @@
 -- The exact factors are at most 1, the reported ones are never above them and less than 2i grains below.
--- The first and the last are Flow, of the numerators and of what the reported factors lack; the second is that rounding down only removes more.
+-- The first and the last are Flow, of the numerators and of what the reported factors lack;
+-- the second is that rounding down only removes more.
 use Prim.Native.Nat.{ℕ, suc, ◌+◌, ◌-◌, ◌*◌, ◌≤◌, ◌<◌}
 use native.Mathlib.Nat.{le_refl, le_of_eq, mul-pos, le_of_mul-le-mul_left, lt_of_mul-lt-mul_left, sub-add_cancel}
 use native.Mathlib.Omega.{arith}
@@ -30,15 +31,19 @@ kept :
     → ((k : ℕ) → k < i → scale * removal chain rate (suc k) * a (suc k) ≤ K * inflow_of a (chain.feeds (suc k)))
     → AtMostInflow sound a 0 i
 kept {scale} {chain} rate sound i a each k h =
-    let most = at_most_inflow scale (removal chain rate (suc k)) K _ (a (suc k)) (omega arith) (omega arith) (each k h) in
+    let most =
+    at_most_inflow scale (removal chain rate (suc k)) K _ (a (suc k)) (omega arith) (omega arith) (each k h) in
     omega arith
 
-module _ {scale : ℕ} {chain : Chain} {rate : ℕ → ℕ} (pos : 0 < scale) (sound : Sound scale chain) (i : ℕ) (l : i < chain.count) where
+module _ {scale : ℕ} {chain : Chain} {rate : ℕ → ℕ} (pos : 0 < scale) (sound : Sound scale chain) (i : ℕ)
+    (l : i < chain.count) where
   module _ {r : ℕ → ℕ} (reported : ReportedFactors scale chain rate i r) where
-    rounded_down : (k : ℕ) → k < i → scale * removal chain rate (suc k) * r (suc k) ≤ K * inflow_of r (chain.feeds (suc k))
+    rounded_down : (k : ℕ) → k < i →
+        scale * removal chain rate (suc k) * r (suc k) ≤ K * inflow_of r (chain.feeds (suc k))
     rounded_down k h = rw (reported.later k h) (rounded_below scale _ K _)
 
-    little : (k : ℕ) → k < i → K * inflow_of r (chain.feeds (suc k)) < scale * removal chain rate (suc k) * r (suc k) + 2 * (scale * removal chain rate (suc k))
+    little : (k : ℕ) → k < i → K * inflow_of r (chain.feeds (suc k))
+        < scale * removal chain rate (suc k) * r (suc k) + 2 * (scale * removal chain rate (suc k))
     little k h = rw (reported.later k h) (rounded_little scale _ K _ pos (omega arith) (omega arith))
 
     pub reported_at_most : r i ≤ G
@@ -65,7 +70,8 @@ module _ {scale : ℕ} {chain : Chain} {rate : ℕ → ℕ} (pos : 0 < scale) (s
     module _ {r : ℕ → ℕ} (reported : ReportedFactors scale chain rate i r) where
       pub below_exact : (k : ℕ) → k ≤ i → P * r k ≤ G * x k
       below_exact =
-          let parent : P * r 0 ≤ G * x 0 = omega (arith, ap (λ t. P * t) reported.parent, ap (λ t. G * t) exact.parent) in
+          let parent : P * r 0 ≤ G * x 0 =
+          omega (arith, ap (λ t. P * t) reported.parent, ap (λ t. G * t) exact.parent) in
           stays_below chain (λ k. le_refl (rate k)) pos sound i l P G P x r exact parent (rounded_down reported)
 
       -- What the reported factor lacks, over P.
@@ -85,8 +91,11 @@ module _ {scale : ℕ} {chain : Chain} {rate : ℕ → ℕ} (pos : 0 < scale) (s
         losses k h =
             let D = removal chain rate (suc k) in
             let below = sound.from_lower (suc k) (omega arith) in
-            let inflows = inflow_le G 1 P x lack r (suc k) (chain.feeds (suc k)) below (λ j m. omega (arith, lacking j (omega arith))) in
-            loss_passes scale D K P G _ _ _ _ _ _ pos_p (omega arith) (exact.later k h) (little reported k h) (lacking (suc k) h) (omega arith)
+            let inflows =
+            inflow_le G 1 P x lack r (suc k) (chain.feeds (suc k)) below
+            (λ j m. omega (arith, lacking j (omega arith))) in
+            loss_passes scale D K P G _ _ _ _ _ _ pos_p (omega arith) (exact.later k h) (little reported k h)
+            (lacking (suc k) h) (omega arith)
 
         pub less_than_2i : 0 < i → G * x i < P * r i + 2 * i * P
         less_than_2i later =

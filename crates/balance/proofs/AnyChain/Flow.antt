@@ -1,5 +1,6 @@
--- Flow: where each later member has at most its inflow and a loss β, no member has more than the parent and the losses up to it.
--- Added up, the inflows of members 1 to n are at most members 0 to n - 1, since the shares out of each are at most the whole; then most of both sums cancels.
+-- Flow: where each later member has at most its inflow and a loss β, no member has more than the parent and the losses
+-- up to it. Added up, the inflows of members 1 to n are at most members 0 to n - 1, since the shares out of each are at
+-- most the whole; then most of both sums cancels.
 use Prim.Native.Nat.{ℕ, zero, suc, ◌+◌, ◌*◌, ◌≤◌, ◌<◌}
 use native.Mathlib.Nat.{le_refl, le_trans, le-suc, mul-le-mul_right}
 use native.Mathlib.Decide.{le_ind}
@@ -14,11 +15,13 @@ use Rattle.numbers.specs.Sums.{sum_below}
 use Rattle.numbers.proofs.Sums.{sum_mono, sum_scale}
 use Rattle.balance.proofs.AnyChain.Origin.{inflow_by_origin}
 
-shares_append : (i : ℕ) (feeds more : List Feed) → shares_from i (feeds ++ more) ≡ shares_from i feeds + shares_from i more
+shares_append : (i : ℕ) (feeds more : List Feed) →
+    shares_from i (feeds ++ more) ≡ shares_from i feeds + shares_from i more
 shares_append i [] more = omega arith
 shares_append i (feed ∷ feeds) more = let ih = shares_append i feeds more in omega arith
 
-from_below_append : (k : ℕ) (feeds more : List Feed) → FromBelow k feeds → FromBelow k more → FromBelow k (feeds ++ more)
+from_below_append : (k : ℕ) (feeds more : List Feed) → FromBelow k feeds → FromBelow k more →
+    FromBelow k (feeds ++ more)
 from_below_append k [] more these those = those
 from_below_append k (feed ∷ feeds) more these those = (these.0, from_below_append k feeds more these.1 those)
 
@@ -31,7 +34,8 @@ module _ {scale : ℕ} {chain : Chain} (sound : Sound scale chain) where
   shares_below : (i k : ℕ) → k ≤ chain.count → i < chain.count → shares_from i (feeds_below chain k) ≤ scale
   shares_below i k le l =
       let first : ℕ → ℕ = λ m. shares_from i (feeds_below chain m) in
-      let more : (m : ℕ) → k ≤ m → first k ≤ first m → first k ≤ first (suc m) = λ m h ih. omega (arith, shares_append i (feeds_below chain m) (chain.feeds m)) in
+      let more : (m : ℕ) → k ≤ m → first k ≤ first m → first k ≤ first (suc m) =
+      λ m h ih. omega (arith, shares_append i (feeds_below chain m) (chain.feeds m)) in
       le_trans (le_ind (λ m. first k ≤ first m) (le_refl _) more chain.count le) (sound.shares_out i l)
 
   -- Each comes from below the last member that they feed.
@@ -45,7 +49,8 @@ module _ {scale : ℕ} {chain : Chain} (sound : Sound scale chain) where
   all_inflows a n l =
       let feeds = feeds_below chain (suc n) in
       let sorted = inflow_by_origin a n feeds (feeds_from_below n l) in
-      let most : (i : ℕ) → i < n → shares_from i feeds * a i ≤ a i * scale = λ i h. omega (arith, mul-le-mul_right (a i) (shares_below i (suc n) l (omega arith))) in
+      let most : (i : ℕ) → i < n → shares_from i feeds * a i ≤ a i * scale =
+      λ i h. omega (arith, mul-le-mul_right (a i) (shares_below i (suc n) l (omega arith))) in
       omega (arith, sum_mono n most, sum_scale n scale a)
 
   module _ (a : ℕ → ℕ) (β : ℕ) where
@@ -53,7 +58,8 @@ module _ {scale : ℕ} {chain : Chain} (sound : Sound scale chain) where
     abbrev pub AtMostInflow : ℕ → Type 0
     AtMostInflow n = (k : ℕ) → k < n → scale * a (suc k) ≤ inflow_of a (chain.feeds (suc k)) + β
 
-    added_up : (n : ℕ) → AtMostInflow n → scale * sum_below (suc n) a ≤ scale * a 0 + inflow_of a (feeds_below chain (suc n)) + n * β
+    added_up : (n : ℕ) → AtMostInflow n →
+        scale * sum_below (suc n) a ≤ scale * a 0 + inflow_of a (feeds_below chain (suc n)) + n * β
     unfolding sum_below
     added_up zero each = omega arith
     added_up (suc n) each =

@@ -1,5 +1,6 @@
 -- A member's inflow, over a number for each member in place of a list of factors.
--- It is linear in those numbers, and reads only the members that the feeds come from, so what holds of each of these holds of the inflow.
+-- It is linear in those numbers, and reads only the members that the feeds come from,
+-- so what holds of each of these holds of the inflow.
 use Prim.Native.Nat.{ℕ, ◌+◌, ◌*◌, ◌≤◌, ◌<◌}
 use native.Mathlib.Nat.{mul-le-mul_left}
 use native.Mathlib.Omega.{arith}
@@ -14,11 +15,14 @@ abbrev pub inflow_of : (ℕ → ℕ) → List Feed → ℕ
 inflow_of a [] = 0
 inflow_of a (feed ∷ feeds) = feed.share * a feed.from + inflow_of a feeds
 
-pub inflow_of_list : (factors : List ℕ) (feeds : List Feed) → inflow factors feeds ≡ inflow_of (λ k. get_or factors k 0) feeds
+pub inflow_of_list : (factors : List ℕ) (feeds : List Feed) →
+    inflow factors feeds ≡ inflow_of (λ k. get_or factors k 0) feeds
 inflow_of_list factors [] = refl
-inflow_of_list factors (feed ∷ feeds) = ap (λ y. feed.share * get_or factors feed.from 0 + y) (inflow_of_list factors feeds)
+inflow_of_list factors (feed ∷ feeds) =
+    ap (λ y. feed.share * get_or factors feed.from 0 + y) (inflow_of_list factors feeds)
 
-pub inflow_append : (a : ℕ → ℕ) (feeds more : List Feed) → inflow_of a (feeds ++ more) ≡ inflow_of a feeds + inflow_of a more
+pub inflow_append : (a : ℕ → ℕ) (feeds more : List Feed) →
+    inflow_of a (feeds ++ more) ≡ inflow_of a feeds + inflow_of a more
 inflow_append a [] more = omega arith
 inflow_append a (feed ∷ feeds) more = let ih = inflow_append a feeds more in omega arith
 
@@ -54,7 +58,8 @@ inflow_scaled p a b k (feed ∷ feeds) below each =
     omega arith
 
 pub inflow_same :
-    (a b : ℕ → ℕ) (k : ℕ) (feeds : List Feed) → FromBelow k feeds → ((j : ℕ) → j < k → a j ≡ b j) → inflow_of a feeds ≡ inflow_of b feeds
+    (a b : ℕ → ℕ) (k : ℕ) (feeds : List Feed) → FromBelow k feeds → ((j : ℕ) → j < k → a j ≡ b j) →
+    inflow_of a feeds ≡ inflow_of b feeds
 inflow_same a b k feeds below each =
     let once = inflow_scaled 1 a b k feeds below (λ j l. omega (arith, each j l)) in
     omega arith

@@ -32,7 +32,8 @@ module _ (chain : Chain) (part : ℕ → ℕ → ℕ) where
   made_length zero = refl
   made_length (suc i) = let ih = made_length i in simp length-append (omega arith)
 
-  made_stable : (i k : ℕ) → k ≤ i → get_or (in_member_order chain part (suc i)) k 0 ≡ get_or (in_member_order chain part i) k 0
+  made_stable : (i k : ℕ) → k ≤ i →
+      get_or (in_member_order chain part (suc i)) k 0 ≡ get_or (in_member_order chain part i) k 0
   unfolding in_member_order
   made_stable i k le = get_or-append (in_member_order chain part i) _ 0 k (omega (arith, made_length i))
 
@@ -56,7 +57,8 @@ module _ (chain : Chain) (part : ℕ → ℕ → ℕ) where
 
   module _ {scale : ℕ} (sound : Sound scale chain) where
     pub made_inflow :
-        (k : ℕ) → suc k < chain.count → inflow (in_member_order chain part k) (chain.feeds (suc k)) ≡ inflow_of made (chain.feeds (suc k))
+        (k : ℕ) → suc k < chain.count →
+        inflow (in_member_order chain part k) (chain.feeds (suc k)) ≡ inflow_of made (chain.feeds (suc k))
     made_inflow k l =
         inflow_of_list (in_member_order chain part k) (chain.feeds (suc k))
         ∙ inflow_same

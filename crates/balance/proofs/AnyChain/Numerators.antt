@@ -1,4 +1,5 @@
--- The list of numerators: one for each member, and a new member multiplies the earlier ones by its own scale × (K + v × T).
+-- The list of numerators: one for each member,
+-- and a new member multiplies the earlier ones by its own scale × (K + v × T).
 use Prim.Native.Nat.{ℕ, zero, suc, ◌*◌, ◌≤◌, ◌<◌}
 use native.Mathlib.Nat.{mul-pos}
 use native.Mathlib.Omega.{arith}
@@ -29,7 +30,8 @@ module _ (scale : ℕ) (chain : Chain) (rate : ℕ → ℕ) where
   pub numerators_earlier :
       (i k : ℕ)
       → k ≤ i
-      → get_or (numerators scale chain rate (suc i)) k 0 ≡ scale * removal chain rate (suc i) * get_or (numerators scale chain rate i) k 0
+      → get_or (numerators scale chain rate (suc i)) k 0
+      ≡ scale * removal chain rate (suc i) * get_or (numerators scale chain rate i) k 0
   unfolding numerators
   numerators_earlier i k le =
       let c = scale * removal chain rate (suc i) in
@@ -39,8 +41,10 @@ module _ (scale : ℕ) (chain : Chain) (rate : ℕ → ℕ) where
 
   pub numerators_next :
       (i : ℕ)
-      → get_or (numerators scale chain rate (suc i)) (suc i) 0 ≡ K * inflow (numerators scale chain rate i) (chain.feeds (suc i))
+      → get_or (numerators scale chain rate (suc i)) (suc i) 0
+      ≡ K * inflow (numerators scale chain rate i) (chain.feeds (suc i))
   unfolding numerators
   numerators_next i =
       let earlier = numerators scale chain rate i in
-      get_or_at (map (λ x. x * (scale * removal chain rate (suc i))) earlier) _ _ 0 (suc i) (rw length-map (numerators_length i))
+      get_or_at (map (λ x. x * (scale * removal chain rate (suc i))) earlier) _ _ 0 (suc i)
+      (rw length-map (numerators_length i))

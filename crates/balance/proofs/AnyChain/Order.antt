@@ -29,5 +29,7 @@ module _ (chain : Chain) {rate higher : ℕ → ℕ} (rises : (k : ℕ) → rate
         passes : (k : ℕ) → k < i → ((j : ℕ) → j ≤ k → p * y j ≤ g * x j) → p * y (suc k) ≤ g * x (suc k)
         passes k h earlier =
             let below = sound.from_lower (suc k) (omega arith) in
-            let inflows = inflow_order p g y x (suc k) (chain.feeds (suc k)) below (λ j m. earlier j (le_of_suc-le-suc m)) in
-            order_passes scale _ _ K p g _ _ _ _ pos (omega arith) (removal_rises (suc k)) (exact.later k h) (lower k h) inflows
+            let inflows =
+            inflow_order p g y x (suc k) (chain.feeds (suc k)) below (λ j m. earlier j (le_of_suc-le-suc m)) in
+            order_passes scale _ _ K p g _ _ _ _ pos (omega arith) (removal_rises (suc k)) (exact.later k h)
+            (lower k h) inflows

@@ -23,7 +23,8 @@ module _ (a b : ℕ → ℕ) (feed : Feed) where
   abbrev with_feed : ℕ → ℕ
   with_feed i = (cond (eqb feed.from i) feed.share 0 + b i) * a i
 
-  feed_in_sum : (n : ℕ) → feed.from < n → feed.share * a feed.from + sum_below n (λ i. b i * a i) ≤ sum_below n with_feed
+  feed_in_sum : (n : ℕ) → feed.from < n →
+      feed.share * a feed.from + sum_below n (λ i. b i * a i) ≤ sum_below n with_feed
   unfolding sum_below
   feed_in_sum zero l = absurd (omega arith)
   feed_in_sum (suc n) l = at_or_before (eq-or-lt_of_le (le_of_suc-le-suc l)) (feed_in_sum n)
@@ -37,11 +38,13 @@ module _ (a b : ℕ → ℕ) (feed : Feed) where
           let same = ap (λ j. feed.share * a j) e in
           let rest = sum_mono n {f = λ i. b i * a i} {g = with_feed} (λ k l. mul-le-mul_right (a k) (omega arith)) in
           omega arith
-      at_or_before (inr l) earlier = omega (arith, earlier l, mul-le-mul_right (a n) (le-add_left (b n) (cond (eqb feed.from n) feed.share 0)))
+      at_or_before (inr l) earlier =
+          omega (arith, earlier l, mul-le-mul_right (a n) (le-add_left (b n) (cond (eqb feed.from n) feed.share 0)))
 
 -- Sorted by the member that they leave.
 pub inflow_by_origin :
-    (a : ℕ → ℕ) (n : ℕ) (feeds : List Feed) → FromBelow n feeds → inflow_of a feeds ≤ sum_below n (λ i. shares_from i feeds * a i)
+    (a : ℕ → ℕ) (n : ℕ) (feeds : List Feed) → FromBelow n feeds →
+    inflow_of a feeds ≤ sum_below n (λ i. shares_from i feeds * a i)
 inflow_by_origin a n [] below = omega arith
 inflow_by_origin a n (feed ∷ feeds) below =
     let ih = inflow_by_origin a n feeds below.1 in

@@ -27,7 +27,8 @@ module _ (scale : ℕ) (chain : Chain) (rate : ℕ → ℕ) where
 
   module _ (sound : Sound scale chain) (k : ℕ) (l : suc k < chain.count) where
     pub inflow_reported :
-        inflow (reported scale chain rate k) (chain.feeds (suc k)) ≡ inflow_of (reported_factor scale chain rate) (chain.feeds (suc k))
+        inflow (reported scale chain rate k) (chain.feeds (suc k))
+        ≡ inflow_of (reported_factor scale chain rate) (chain.feeds (suc k))
     unfolding reported
     inflow_reported = made_inflow chain kept_part sound k l
 

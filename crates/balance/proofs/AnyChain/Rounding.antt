@@ -1,7 +1,10 @@
--- One member's balance as arithmetic: its two roundings, and how an order between two balances passes from the inflows to the members.
--- Throughout, s is the scale, D the removal K + v × T, and P a denominator of exact factors. Each fact is multiplied out, added and cancelled.
+-- One member's balance as arithmetic: its two roundings, and how an order between two balances passes from the inflows
+-- to the members. Throughout, s is the scale, D the removal K + v × T, and P a denominator of exact factors. Each fact
+-- is multiplied out, added and cancelled.
 use Prim.Native.Nat.{ℕ, ◌+◌, ◌*◌, ◌/◌, ◌≤◌, ◌<◌}
-use native.Mathlib.Nat.{mul-le-mul_left, mul-le-mul_right, mul-pos, mul-lt-mul_of_pos_left, le_of_mul-le-mul_left, lt_of_mul-lt-mul_left, mul-div-le, lt-mul-div-succ, le-div_iff_mul-le, div-mul-le_self, le_trans}
+use native.Mathlib.Nat.{mul-le-mul_left, mul-le-mul_right, mul-pos, mul-lt-mul_of_pos_left}
+use native.Mathlib.Nat.{le_of_mul-le-mul_left, lt_of_mul-lt-mul_left, mul-div-le}
+use native.Mathlib.Nat.{lt-mul-div-succ, le-div_iff_mul-le, div-mul-le_self, le_trans}
 use native.Mathlib.Omega.{arith}
 use mathlib.Core.Path.{◌≡◌, ap}
 
@@ -25,7 +28,8 @@ rounded_little s D K inflow pos pos_d le =
 
 -- Decay is part of removal, so a member is at most its inflow.
 pub at_most_inflow : (s D K inflow y : ℕ) → 0 < D → K ≤ D → s * D * y ≤ K * inflow → s * y ≤ inflow
-at_most_inflow s D K inflow y pos_d le h = le_of_mul-le-mul_left {k = D} (omega (arith, mul-le-mul_right inflow le)) pos_d
+at_most_inflow s D K inflow y pos_d le h =
+    le_of_mul-le-mul_left {k = D} (omega (arith, mul-le-mul_right inflow le)) pos_d
 
 -- A member r over one whole that loses at least as much to removal as an exact one x over another.
 pub order_passes :
@@ -68,9 +72,11 @@ quotient_mono d x y pos le = (le-div_iff_mul-le pos).1 (le_trans (div-mul-le_sel
 
 -- A larger inflow and a lower removal give no smaller factor.
 pub rounded_mono :
-    (s D D' K inflow inflow' : ℕ) → 0 < s → 0 < D → D ≤ D' → inflow' ≤ inflow → inflow' / s * K / D' ≤ inflow / s * K / D
+    (s D D' K inflow inflow' : ℕ) → 0 < s → 0 < D → D ≤ D' → inflow' ≤ inflow →
+    inflow' / s * K / D' ≤ inflow / s * K / D
 rounded_mono s D D' K inflow inflow' pos pos_d le less =
     let q' = inflow' / s in
     let r' = q' * K / D' in
     let first = quotient_mono s inflow' inflow pos less in
-    (le-div_iff_mul-le pos_d).1 (omega (arith, mul-le-mul_left r' le, div-mul-le_self (q' * K) D', mul-le-mul_right K first))
+    (le-div_iff_mul-le pos_d).1
+    (omega (arith, mul-le-mul_left r' le, div-mul-le_self (q' * K) D', mul-le-mul_right K first))

@@ -17,7 +17,8 @@ use Rattle.balance.proofs.AnyChain.Bounds.{reported_at_most, reported_inflow, ex
 use Rattle.balance.proofs.AnyChain.Monotone.{reported_falls_along, exact_falls_along}
 
 module _ {scale : ℕ} {chain : Chain} (pos : 0 < scale) (sound : Sound scale chain) where
-  pub factor_promise : {rate : ℕ → ℕ} (i : ℕ) → i < chain.count → FactorPromise scale chain rate i (reported_factor scale chain rate i)
+  pub factor_promise : {rate : ℕ → ℕ} (i : ℕ) → i < chain.count →
+      FactorPromise scale chain rate i (reported_factor scale chain rate i)
   factor_promise {rate} i l =
       let P = denominator scale chain rate i in
       let exact = exact_solves scale chain rate sound i l in
@@ -29,11 +30,14 @@ module _ {scale : ℕ} {chain : Chain} (pos : 0 < scale) (sound : Sound scale ch
             let grains = ap (λ t. t * P) (ap (reported_factor scale chain rate) e ∙ solved.parent) in
             let whole = ap (λ t. t * G) (ap (λ k. get_or (numerators scale chain rate i) k 0) e ∙ exact.parent) in
             omega arith;
-        less_than_2i_below = λ later. omega (arith, less_than_2i pos sound i l exact solved (denominator_pos scale chain rate pos i) later);
+        less_than_2i_below =
+            λ later.
+            omega (arith, less_than_2i pos sound i l exact solved (denominator_pos scale chain rate pos i) later);
       }
 
   pub fall_promise :
-      {rate higher : ℕ → ℕ} → ((k : ℕ) → rate k ≤ higher k) → (i : ℕ) → i < chain.count → FallPromise scale chain rate higher i
+      {rate higher : ℕ → ℕ} → ((k : ℕ) → rate k ≤ higher k) → (i : ℕ) → i < chain.count →
+      FallPromise scale chain rate higher i
   fall_promise {rate} {higher} rises i l =
       let exact = exact_solves scale chain rate sound i l in
       let exact_higher = exact_solves scale chain higher sound i l in
@@ -45,12 +49,16 @@ module _ {scale : ℕ} {chain : Chain} (pos : 0 < scale) (sound : Sound scale ch
       }
 
   -- For the widths of the code's numbers: no factor is above the parent's, and no inflow above the whole of it.
-  pub reported_at_most_g : (rate : ℕ → ℕ) (i k : ℕ) → i < chain.count → k ≤ i → get_or (reported scale chain rate i) k 0 ≤ G
+  pub reported_at_most_g : (rate : ℕ → ℕ) (i k : ℕ) → i < chain.count → k ≤ i →
+      get_or (reported scale chain rate i) k 0 ≤ G
   reported_at_most_g rate i k l le =
       let within : k < chain.count = omega arith in
-      rw (reported_at scale chain rate i k le) (reported_at_most pos sound k within (reported_solves scale chain rate sound k within))
+      rw (reported_at scale chain rate i k le)
+      (reported_at_most pos sound k within (reported_solves scale chain rate sound k within))
 
-  pub inflow_at_most_g : (rate : ℕ → ℕ) (i : ℕ) → suc i < chain.count → inflow (reported scale chain rate i) (chain.feeds (suc i)) ≤ scale * G
+  pub inflow_at_most_g : (rate : ℕ → ℕ) (i : ℕ) → suc i < chain.count →
+      inflow (reported scale chain rate i) (chain.feeds (suc i)) ≤ scale * G
   inflow_at_most_g rate i l =
       let within : i < chain.count = omega arith in
-      rw (inflow_reported scale chain rate sound i l) (reported_inflow pos sound i within (reported_solves scale chain rate sound i within) l)
+      rw (inflow_reported scale chain rate sound i l)
+      (reported_inflow pos sound i within (reported_solves scale chain rate sound i within) l)

@@ -29,7 +29,8 @@ module _ {found all : Checked} (checked : found ≡ all) (n : ℕ) (factors list
     pub filled_answer : {count : ℕ} → count ≡ n → Ok count ≡ answer_if all n
     filled_answer counted = ap Ok counted ∙ ap (λ result. answer_if result n) (sym passed ∙ checked)
 
-    pub filled_list : {now : List ℕ} → length factors ≡ n → now ≡ factors ++ drop n list → now ≡ written_if all factors list
+    pub filled_list : {now : List ℕ} → length factors ≡ n → now ≡ factors ++ drop n list →
+        now ≡ written_if all factors list
     filled_list size written =
         written
         ∙ ap (λ count. factors ++ drop count list) (sym size)

@@ -19,7 +19,8 @@ use Rattle.balance.proofs.FromBook.BookFeeds.{held_whole}
 use Rattle.balance.proofs.FromBook.AcceptedSound.{accepted_sound}
 
 -- A feed of the list comes from one of the members that all of them come from.
-from_at : (n : ℕ) (feeds : List Feed) (k : ℕ) (other : Feed) → FromBelow n feeds → k < length feeds → (get_or feeds k other).from < n
+from_at : (n : ℕ) (feeds : List Feed) (k : ℕ) (other : Feed) → FromBelow n feeds → k < length feeds →
+    (get_or feeds k other).from < n
 from_at n [] k other below l = absurd (omega arith)
 from_at n (feed ∷ feeds) zero other below l = below.0
 from_at n (feed ∷ feeds) (suc k) other below l = from_at n feeds k other below.1 (le_of_suc-le-suc l)
@@ -34,7 +35,8 @@ pub record Turn (factors : List ℕ) (feeds : List Feed) (feed : Feed) (k : ℕ)
   pub next :
       inflow factors (drop k feeds) ≡ feed.share * get_or factors feed.from 0 + inflow factors (drop (k + 1) feeds)
 
-module _ {book : List ℕ} (accepted : Accepted book) {i : ℕ} {factors : List ℕ} (given : Fed book i factors) {feeds : List Feed} (held : feeds ≡ map (feed_of book) (held_feeds book i)) where
+module _ {book : List ℕ} (accepted : Accepted book) {i : ℕ} {factors : List ℕ} (given : Fed book i factors)
+    {feeds : List Feed} (held : feeds ≡ map (feed_of book) (held_feeds book i)) where
   -- They are the chain's.
   fed_feeds : feeds ≡ (chain_of book).feeds i
   fed_feeds = held ∙ ap (map (feed_of book)) (held_whole book accepted i given.member)

@@ -56,7 +56,8 @@ module _ (book : List ℕ) (accepted : Accepted book) where
     unfolding reported
     inflow_bound zero later l h = absurd (omega arith)
     inflow_bound (suc i) later l h =
-        rw (inflow_filled (chain_of book) part sound i l h) (inflow_at_most_g (scale_positive book) sound (rates_at book v) i l)
+        rw (inflow_filled (chain_of book) part sound i l h)
+        (inflow_at_most_g (scale_positive book) sound (rates_at book v) i l)
 
     -- The places filled so far let the next member's inflow be summed, and the factor made of it fills the next place.
     module _
@@ -71,8 +72,8 @@ module _ (book : List ℕ) (accepted : Accepted book) where
           }
 
       pub member_filled :
-          {summed scale life factor : ℕ} → summed ≡ inflow now ((chain_of book).feeds i) → scale ≡ scale_of book → life ≡ half_life book i →
-          factor ≡ summed / scale * K / (K + v * life) →
+          {summed scale life factor : ℕ} → summed ≡ inflow now ((chain_of book).feeds i) →
+          scale ≡ scale_of book → life ≡ half_life book i → factor ≡ summed / scale * K / (K + v * life) →
           Filled (factor_at book v) list (members book) (i + 1) (set now i factor)
       unfolding reported
       member_filled sums scales lives made =

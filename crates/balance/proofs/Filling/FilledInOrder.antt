@@ -54,7 +54,8 @@ module _ (chain : Chain) (part : ℕ → ℕ → ℕ) where
     next_filled i later l m h e = filled_more h m (e ∙ next_made i later l h)
 
   -- The parent's factor fills the first place.
-  pub parent_filled : (out : List ℕ) {n : ℕ} → 1 ≤ n → n ≤ length out → Filled (made chain part) (set out 0 G) n 1 (set out 0 G)
+  pub parent_filled : (out : List ℕ) {n : ℕ} → 1 ≤ n → n ≤ length out →
+      Filled (made chain part) (set out 0 G) n 1 (set out 0 G)
   parent_filled out {n} some capacity =
       let once : Filled (made chain part) (set out 0 G) n 1 (set (set out 0 G) 0 G) =
       filled_more (filled_none (simp length-set capacity)) some (sym (made_parent chain part))

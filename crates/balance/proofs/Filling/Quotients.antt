@@ -8,6 +8,7 @@ use Rattle.book.specs.BookGrounds.{Accepted}
 use Rattle.book.proofs.Ranges.{accepted_ranges}
 
 -- Every member but the parent has a half-life within the daughters' limit.
-pub later_half_life : (book : List ℕ) → Accepted book → (i : ℕ) → i < members book → 0 < i → half_life book i ≤ max_half_life
+pub later_half_life : (book : List ℕ) → Accepted book → (i : ℕ) → i < members book → 0 < i →
+    half_life book i ≤ max_half_life
 later_half_life book accepted zero l later = absurd (omega arith)
 later_half_life book accepted (suc i) l later = ((accepted_ranges book accepted).member (suc i) l).half_life_in_range.to

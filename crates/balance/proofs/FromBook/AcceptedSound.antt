@@ -1,5 +1,6 @@
 -- An accepted book means a sound chain.
--- Ground 17 says that feeds come from lower members. Ground 18 bounds the shares of feeds 1 to m out of each member, and the members' feeds are these, each once.
+-- Ground 17 says that feeds come from lower members. Ground 18 bounds the shares of feeds 1 to m out of each member,
+-- and the members' feeds are these, each once.
 use Prim.Native.Nat.{ℕ, zero, suc, ◌≤◌, ◌<◌}
 use native.Mathlib.Nat.{le_of_eq, le_trans}
 use native.Mathlib.Omega.{arith}
@@ -23,7 +24,8 @@ use Rattle.balance.proofs.FromBook.OnceEach.{sum_over, once_each}
 use Rattle.balance.proofs.FromBook.BookFeeds.{walk_listed}
 
 module _ (book : List ℕ) where
-  from_below : (i : ℕ) (js : List ℕ) → some_in js (λ j. leb i (from book j)) ≡ false → FromBelow i (map (feed_of book) js)
+  from_below : (i : ℕ) (js : List ℕ) → some_in js (λ j. leb i (from book j)) ≡ false →
+      FromBelow i (map (feed_of book) js)
   unfolding some_in
   from_below i [] none = tt
   from_below i (j ∷ js) none =
@@ -35,13 +37,15 @@ module _ (book : List ℕ) where
   feeds_walked zero = refl
   feeds_walked (suc k) = rw (feeds_walked k, map-append)
 
-  shares_listed : (i m : ℕ) (js : List ℕ) → Listed m js → shares_from i (map (feed_of book) js) ≡ sum_over (λ j. share_out book i (suc j)) js
+  shares_listed : (i m : ℕ) (js : List ℕ) → Listed m js →
+      shares_from i (map (feed_of book) js) ≡ sum_over (λ j. share_out book i (suc j)) js
   shares_listed i m [] listed = refl
   shares_listed i m (zero ∷ js) listed = absurd (omega (arith, listed.0))
   shares_listed i m (suc j ∷ js) listed = let ih = shares_listed i m js listed.2 in omega arith
 
   module _ (accepted : Accepted book) where
-    shares_at_most : (i : ℕ) → i < members book → shares_from i (feeds_below (chain_of book) (members book)) ≤ scale_of book
+    shares_at_most : (i : ℕ) → i < members book →
+        shares_from i (feeds_below (chain_of book) (members book)) ≤ scale_of book
     shares_at_most i l =
         let ranges = accepted_ranges book accepted in
         let m = feed_count book in
@@ -56,6 +60,8 @@ module _ (book : List ℕ) where
     unfolding feed_not_from_lower
     accepted_sound =
         record {
-          from_lower = λ k l. from_below k (feeds_of book k) (none_below (members book) _ (accepted_passes book accepted).from_lower k l);
+          from_lower =
+              λ k l. from_below k (feeds_of book k)
+              (none_below (members book) _ (accepted_passes book accepted).from_lower k l);
           shares_out = shares_at_most;
         }

@@ -1,6 +1,7 @@
--- The feeds of an accepted book: those of each member are 1 to m and at most m in number, so the bound m + 1 cuts no list short.
--- The walk through all members lists each feed once, which bounds its length, and each member's list is a part of it. So the arrays have
--- a place for each feed of the walk, in its order, and each member's feeds are held whole.
+-- The feeds of an accepted book: those of each member are 1 to m and at most m in number,
+-- so the bound m + 1 cuts no list short. The walk through all members lists each feed once,
+-- which bounds its length, and each member's list is a part of it. So the arrays have a
+-- place for each feed of the walk, in its order, and each member's feeds are held whole.
 use Prim.Native.Nat.{ℕ, zero, suc, ◌+◌, ◌-◌, ◌≤◌, ◌<◌}
 use native.Mathlib.Nat.{le_refl, le_of_eq, le_trans}
 use native.Mathlib.Decide.{le_ind}
@@ -32,7 +33,8 @@ module _ (book : List ℕ) (accepted : Accepted book) where
   unfolding walk
   walk_listed_below zero le = tt
   walk_listed_below (suc k) le =
-      listed_append (feed_count book) (walk book k) (feeds_of book k) (walk_listed_below k (omega arith)) (feeds_listed k le)
+      listed_append (feed_count book) (walk book k) (feeds_of book k) (walk_listed_below k (omega arith))
+      (feeds_listed k le)
 
   pub walk_listed : Listed (feed_count book) (walk book (members book))
   walk_listed = walk_listed_below (members book) (le_refl _)
@@ -60,7 +62,8 @@ module _ (book : List ℕ) (accepted : Accepted book) where
   walk_part i l = le_trans (walk_holds i (members book) l) walk_length
 
   -- The bound m + 1 cuts no list short: with any more it is the same list.
-  pub feeds_whole : (i : ℕ) → i < members book → (k : ℕ) → along (next book) (feed_count book + 1 + k) (first_feed book i) ≡ feeds_of book i
+  pub feeds_whole : (i : ℕ) → i < members book → (k : ℕ) →
+      along (next book) (feed_count book + 1 + k) (first_feed book i) ≡ feeds_of book i
   feeds_whole i l k =
       along_short
       (next book)
@@ -70,8 +73,10 @@ module _ (book : List ℕ) (accepted : Accepted book) where
       (omega (arith, walk_part i l))
       (omega (arith, walk_part i l))
 
-  -- So there is a place for each: with as many places as are left after those of the members before it, it is the same list.
-  walk_uncut : (i : ℕ) → i < members book → along (next book) (max_feeds - length (walk book i)) (first_feed book i) ≡ feeds_of book i
+  -- So there is a place for each: with as many places as are left
+  -- after those of the members before it, it is the same list.
+  walk_uncut : (i : ℕ) → i < members book →
+      along (next book) (max_feeds - length (walk book i)) (first_feed book i) ≡ feeds_of book i
   walk_uncut i l =
       let capacity = (accepted_ranges book accepted).feeds_count in
       along_short
@@ -87,10 +92,12 @@ module _ (book : List ℕ) (accepted : Accepted book) where
   unfolding walk feeds_in_order
   in_order zero le = refl
   in_order (suc i) le =
-      ap (λ before. before ++ along (next book) (max_feeds - length before) (first_feed book i)) (in_order i (omega arith))
+      ap (λ before. before ++ along (next book) (max_feeds - length before) (first_feed book i))
+      (in_order i (omega arith))
       ∙ ap (λ js. walk book i ++ js) (walk_uncut i le)
 
   -- Each member's feeds are held whole.
   pub held_whole : (i : ℕ) → i < members book → held_feeds book i ≡ feeds_of book i
   held_whole i l =
-      ap (λ before. along (next book) (max_feeds - length before) (first_feed book i)) (in_order i (omega arith)) ∙ walk_uncut i l
+      ap (λ before. along (next book) (max_feeds - length before) (first_feed book i)) (in_order i (omega arith))
+      ∙ walk_uncut i l

@@ -61,7 +61,8 @@ length_sum m [] listed = refl
 length_sum m (zero ∷ js) listed = absurd (omega (arith, listed.0))
 length_sum m (suc j ∷ js) listed = let ih = length_sum m js listed.2 in omega arith
 
-pub length_at_most : (m : ℕ) (js : List ℕ) → Listed m js → ((j : ℕ) → j < m → occurrences (suc j) js ≤ 1) → length js ≤ m
+pub length_at_most : (m : ℕ) (js : List ℕ) → Listed m js → ((j : ℕ) → j < m → occurrences (suc j) js ≤ 1) →
+    length js ≤ m
 unfolding sum_below
 length_at_most m js listed once = omega (arith, length_sum m js listed, once_each (λ j. 1) m js listed once, ones m)
   where

@@ -23,7 +23,8 @@ fn some_not_zero(book: &[u8], start: u32, count: u16) -> bool
 // One of the three zero bytes of some member isn't zero.
 fn members_not_zero(book: &[u8]) -> bool
     ensures { let bytes = book.now in
-        result ≡ some_below (members bytes) (λ i. some_below member_zero_count (λ k. not_zero bytes (member_zeros i + k))) }
+        result
+        ≡ some_below (members bytes) (λ i. some_below member_zero_count (λ k. not_zero bytes (member_zeros i + k))) }
 {
     some_below(member_count(book), |i| {
         some_not_zero(book, member_at(i) + MEMBER_ZEROS, MEMBER_ZERO_COUNT)
@@ -34,7 +35,8 @@ fn members_not_zero(book: &[u8]) -> bool
 fn feeds_not_zero(book: &[u8]) -> bool
     ensures { let bytes = book.now in
         result
-        ≡ some_below (feed_count bytes) (λ j. some_below feed_zero_count (λ k. not_zero bytes (feed_zeros bytes (suc j) + k))) }
+        ≡ some_below (feed_count bytes)
+        (λ j. some_below feed_zero_count (λ k. not_zero bytes (feed_zeros bytes (suc j) + k))) }
 {
     some_below(feed_count(book), |j| {
         some_not_zero(book, feed_at(book, j + 1) + FEED_ZEROS, FEED_ZERO_COUNT)

@@ -1,5 +1,5 @@
--- The answer has figures and at most sixteen factors, and the numbers are those of its figures. A list that is too short is refused with
--- both as they were.
+-- The answer has figures and at most sixteen factors, and the numbers are those of its figures. A list that is too
+-- short is refused with both as they were.
 use Rattle.std.proofs.Common.{refl, ◌≡◌, length, sym, ◌∙◌}
 use Rattle.std.specs.Prelude.{Err}
 use Rattle.std.proofs.lemmas.Result.{err_from_is_err_and}

@@ -20,5 +20,6 @@ returns c =
     let passed = sym c.in_ok-check_periods.ensures in
     let size = factors_after_length periods book (periods_pass periods book (length list) passed).1 in
     let answered = filled_answer (sym passed) (members book) factors list refl c.pass_periods-members.ensures.counted in
-    let written = filled_list (sym passed) (members book) factors list refl size c.pass_periods-members.ensures.passed in
+    let written =
+    filled_list (sym passed) (members book) factors list refl size c.pass_periods-members.ensures.passed in
     record { answered = answered; written = written; sound = kept periods book list answered written }

@@ -1,4 +1,5 @@
--- What the minutes ask of a book, the periods and a lent list; the checks of the call ensure it, and each minute keeps it.
+-- What the minutes ask of a book, the periods and a lent list;
+-- the checks of the call ensure it, and each minute keeps it.
 use Rattle.std.specs.Prelude.{ℕ, ◌-◌, ◌*◌, ◌≤◌, ◌<◌, ◌≡◌, List, length, get_or}
 use Rattle.book.specs.Fields.{members, scale_of}
 use Rattle.book.specs.BookGrounds.{Accepted}
@@ -24,15 +25,18 @@ minutes_at book v k factors = minutes (scale_of book) (chain_of book) (rates_at 
 abbrev pub periods_at : List ℕ → List ℕ → ℕ → List ℕ
 periods_at book periods p = after_periods (scale_of book) (chain_of book) (rates_at book) (members book - 1) periods p
 
--- Of each member's factor: it is not above the exact steady one at rate 0. All stand over the last member's denominator.
+-- Of each member's factor: it is not above the exact steady one at rate 0.
+-- All stand over the last member's denominator.
 abbrev pub BelowUnaired : List ℕ → (ℕ → ℕ) → Type 0
 BelowUnaired book factor =
     let rate = rates_at book 0 in
     let last = members book - 1 in
     (i : ℕ) → i ≤ last →
-    denominator (scale_of book) (chain_of book) rate last * factor i ≤ G * get_or (numerators (scale_of book) (chain_of book) rate last) i 0
+    denominator (scale_of book) (chain_of book) rate last * factor i
+    ≤ G * get_or (numerators (scale_of book) (chain_of book) rate last) i 0
 
--- The list's first places hold factors of the book's members: the parent is held, and so no inflow is too large for a word.
+-- The list's first places hold factors of the book's members:
+-- the parent is held, and so no inflow is too large for a word.
 pub record Holds (book list : List ℕ) : Type 0 where
   pub accepted : Accepted book
   pub enough : members book ≤ length list

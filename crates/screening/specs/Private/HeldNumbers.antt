@@ -11,7 +11,8 @@ use Rattle.verdict.specs.declared.working.WorkingLevels.{WorkingLevels}
 -- The figures that a book's numbers and divisor and two arrays of factors give, at the rate and at rate 0, and what is
 -- asked of them.
 abbrev pub figures_by : ℕ → Judgement → Option WorkingLevels → Figures
-figures_by C judged working = record { concentration = C; verdict = judged.verdict; level = judged.level; working = working }
+figures_by C judged working =
+    record { concentration = C; verdict = judged.verdict; level = judged.level; working = working }
 
 abbrev pub figures_in : Criterion → ℕ → ℕ → List (List ℕ) → List ℕ → List ℕ → Figures
 figures_in by C W coefficients factors at_zero =

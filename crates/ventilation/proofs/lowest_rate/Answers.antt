@@ -1,4 +1,5 @@
--- A refusal is the checks'. The book of a job that is admitted is the part after it, and its room is searched for the rate.
+-- A refusal is the checks'. The book of a job that is admitted is the part after it,
+-- and its room is searched for the rate.
 use Rattle.std.proofs.Common.{ap, sym}
 use Rattle.std.proofs.lemmas.Result.{err_from_is_err_and}
 use Rattle.screening.proofs.AnswerByChecks.{lent_book, refused, passed, input_is, screenable}

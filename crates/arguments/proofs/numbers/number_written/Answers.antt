@@ -11,8 +11,11 @@ loop-byte-preserved c =
     let digit = c.if-not-is_ascii_digit.ensures.cases in
     record {
       fits = omega arith;
-      digits = loop.invariant.digits ∙ digit_passed c.args.word.now loop.byte-index c.loop-byte-test.true digit.0 digit.1;
-      value = loop.invariant.value ∙ value_passed c.args.word.now loop.byte-index loop.number c.with_digit-number.result c.loop-byte-test.true c.with_digit-number.ensures;
+      digits =
+          loop.invariant.digits ∙ digit_passed c.args.word.now loop.byte-index c.loop-byte-test.true digit.0 digit.1;
+      value =
+          loop.invariant.value ∙ value_passed c.args.word.now loop.byte-index loop.number c.with_digit-number.result
+          c.loop-byte-test.true c.with_digit-number.ensures;
     }
 
 pub returns : goal.returns
@@ -23,5 +26,6 @@ returns c =
     let some : length word ≢ 0 = grind (arith, nat_tests) in
     let digits : all_digits word ≡ true = loop.invariant.digits ∙ ap all_digits over in
     let value : min (written 0 word) highest ≡ loop.number =
-    loop.invariant.value ∙ ap (λ rest. min (written loop.number rest) highest) over ∙ (omega (arith, loop.invariant.fits)) in
+    loop.invariant.value ∙ ap (λ rest. min (written loop.number rest) highest) over
+    ∙ (omega (arith, loop.invariant.fits)) in
     sym (all_written word loop.number some digits value)

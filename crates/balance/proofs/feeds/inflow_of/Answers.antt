@@ -9,20 +9,44 @@ no_feed = record { share = 0; from = 0 }
 
 pub bounds-factors-feed : goal.bounds-factors-feed
 bounds-factors-feed c =
-    let t = turn c.args.chain.accepted c.requires c.feeds-feed-items.ensures c.loop-feed.feed-index no_feed c.loop-feed-test.true in
+    let t =
+    turn c.args.chain.accepted c.requires c.feeds-feed-items.ensures c.loop-feed.feed-index no_feed
+    c.loop-feed-test.true in
     t.source
 
 pub overflow_mul-sum : goal.overflow_mul-sum
 overflow_mul-sum c =
-    let t = turn c.args.chain.accepted c.requires c.feeds-feed-items.ensures c.loop-feed.feed-index no_feed c.loop-feed-test.true in
+    let t =
+    turn c.args.chain.accepted c.requires c.feeds-feed-items.ensures c.loop-feed.feed-index no_feed
+    c.loop-feed-test.true in
     rw c.from.ensures
-    record { fits = omega (arith, t.next, c.loop-feed.invariant, fed_inflow c.args.chain.accepted c.requires c.feeds-feed-items.ensures, c.requires.fits) }
+    record {
+      fits =
+          omega (
+            arith,
+            t.next,
+            c.loop-feed.invariant,
+            fed_inflow c.args.chain.accepted c.requires c.feeds-feed-items.ensures,
+            c.requires.fits,
+          );
+    }
 
 pub overflow_add-sum : goal.overflow_add-sum
 overflow_add-sum c =
-    let t = turn c.args.chain.accepted c.requires c.feeds-feed-items.ensures c.loop-feed.feed-index no_feed c.loop-feed-test.true in
+    let t =
+    turn c.args.chain.accepted c.requires c.feeds-feed-items.ensures c.loop-feed.feed-index no_feed
+    c.loop-feed-test.true in
     rw c.from.ensures
-    record { fits = omega (arith, t.next, c.loop-feed.invariant, fed_inflow c.args.chain.accepted c.requires c.feeds-feed-items.ensures, c.requires.fits) }
+    record {
+      fits =
+          omega (
+            arith,
+            t.next,
+            c.loop-feed.invariant,
+            fed_inflow c.args.chain.accepted c.requires c.feeds-feed-items.ensures,
+            c.requires.fits,
+          );
+    }
 
 pub returns : goal.returns
 returns c =

@@ -7,7 +7,9 @@ invariant_of-result c =
     record {
       held = record {
         count = c.member_places-members.ensures;
-        rows = rw (← c.member_places-members.ensures) (c.fill_first.ensures (coefficients_of c.args.book.now) (λ i x l e. e));
+        rows =
+            rw (← c.member_places-members.ensures)
+            (c.fill_first.ensures (coefficients_of c.args.book.now) (λ i x l e. e));
         divisor_is = c.u16_at.ensures;
       };
     }

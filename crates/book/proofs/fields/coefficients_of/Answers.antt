@@ -12,5 +12,6 @@ returns c =
     let i = c.args.i in
     ext_get_or 0 _ _ c.from_fn.ensures.items.long
     (λ k l.
-    made_by (coefficient book i) c.from_fn.ensures.items (λ which y q calls. search rules) k (omega (arith, c.from_fn.ensures.items.long, l))
+    made_by (coefficient book i) c.from_fn.ensures.items (λ which y q calls. search rules) k
+    (omega (arith, c.from_fn.ensures.items.long, l))
     ∙ sym (row_at book i k (omega (arith, c.from_fn.ensures.items.long, l))))

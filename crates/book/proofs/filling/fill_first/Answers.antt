@@ -9,5 +9,6 @@ loop-i-init g c f made = filled_none (omega (arith, length-take-le c.args.count 
 
 pub loop-i-preserved : goal.loop-i-preserved
 loop-i-preserved g c f made =
-    let within : c.loop-i.i < c.args.count = omega (arith, length-take-le c.args.count c.args.list.now c.requires.capacity) in
+    let within : c.loop-i.i < c.args.count =
+    omega (arith, length-take-le c.args.count c.args.list.now c.requires.capacity) in
     filled_more (c.loop-i.invariant f made) within (made c.loop-i.i c.make.result within c.make.ensures)

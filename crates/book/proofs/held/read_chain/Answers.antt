@@ -8,7 +8,9 @@ invariant_of-result c =
     record {
       held = record {
         count = c.member_places-members.ensures;
-        half_life_array = rw (← c.member_places-members.ensures) (c.fill_first.ensures (half_life c.args.book.now) (λ i x l e. search rules));
+        half_life_array =
+            rw (← c.member_places-members.ensures)
+            (c.fill_first.ensures (half_life c.args.book.now) (λ i x l e. search rules));
         end_array = rw (← c.member_places-members.ensures) c.feeds_in.ensures.ended;
         feed_array = rw (← c.member_places-members.ensures) c.feeds_in.ensures.placed.list;
       };

@@ -14,7 +14,8 @@ returns c =
     let given = c.chunks_exact.ensures in
     let cut = rw (run.1, given.size, given.rest) at (given.runs run.0 run.0.seen) in
     let chunks = cut (omega arith) in
-    some_of_run run.0 (period_count periods) (λ p. outside 1 max_minutes (minutes_of periods p)) (λ a b q call. search rules) chunks.1
+    some_of_run run.0 (period_count periods) (λ p. outside 1 max_minutes (minutes_of periods p))
+    (λ a b q call. search rules) chunks.1
     (λ k. IfSome_then (run.0.at k) (chunks.2 k) (λ x h. (omega (arith, h.1), λ b call. search rules)))
     c.any.result
     run.2

@@ -6,4 +6,5 @@ pub loop-passed-init : goal.loop-passed-init
 loop-passed-init c = minutes_none c.args.v.hundredths c.requires
 
 pub loop-passed-preserved : goal.loop-passed-preserved
-loop-passed-preserved c = minutes_more c.args.v.hundredths c.loop-passed._passed c.loop-passed.invariant c.pass_minute.ensures
+loop-passed-preserved c =
+    minutes_more c.args.v.hundredths c.loop-passed._passed c.loop-passed.invariant c.pass_minute.ensures

@@ -8,4 +8,5 @@ any-requires-clause-callable g c = serves_from_Range (λ x q k. search rules) (�
 
 pub returns : goal.returns
 returns g c = λ p computes.
-    some_of_any _ p c.any.ensures.ran refl refl (λ x b q k. search rules) (λ x b q l k. computes x b l (search (rules, k.met)))
+    some_of_any _ p c.any.ensures.ran refl refl (λ x b q k. search rules)
+    (λ x b q l k. computes x b l (search (rules, k.met)))

@@ -19,4 +19,5 @@ returns-in_err-total c =
     let value = c.whole-value.ensures.answered ∙ ap whole_answer c.amount.ensures in
     let uncertainty = c.whole-uncertainty.ensures.answered ∙ ap whole_answer c.amount-2.ensures in
     let p = err_from_is_err_and c.from_residual.result c.from_residual.ensures.1 in
-    rw (p.1, p.2) (rw c.in_err-total.was at (taken c.args.unit c.args.medium c.args.af c.args.reading value uncertainty c.sum.ensures))
+    rw (p.1, p.2) (rw c.in_err-total.was at (taken c.args.unit c.args.medium c.args.af c.args.reading value uncertainty
+    c.sum.ensures))

@@ -12,10 +12,14 @@ loop-turn-preserved g c =
     let text = c.in_ok-text.text.items in
     let case = c.in-Some.case in
     let so_far = c.loop-turn.invariant.1 in
-    let called : CalledAtMut g.N.FnMut c.loop-turn.next c.loop-turn.input (Ok c.in_ok-case.field-0) c.next.new.self c.next.new.arg2 =
+    let called :
+    CalledAtMut g.N.FnMut c.loop-turn.next c.loop-turn.input (Ok c.in_ok-case.field-0) c.next.new.self c.next.new.arg2 =
     record { shown = _; shows = refl; left = _; called = c.in_ok-case.ensures; leaves = refl } in
-    let found : CalledAtMut g.N.FnMut c.loop-turn.next c.loop-turn.input (Ok (Some case)) c.next.new.self c.next.new.arg2 = rw c.in-Some.is at called in
-    let answered : FnReturns g.F.Fn c.args.answer (case, tt) (Ok c.in_ok-text.text) = record { met = c.in_ok-text.ensures } in (
+    let found :
+    CalledAtMut g.N.FnMut c.loop-turn.next c.loop-turn.input (Ok (Some case)) c.next.new.self c.next.new.arg2 =
+    rw c.in-Some.is at called in
+    let answered : FnReturns g.F.Fn c.args.answer (case, tt) (Ok c.in_ok-text.text) =
+    record { met = c.in_ok-text.ensures } in (
       search (rules, of_calls),
       (
         so_far.0 ++ text,
@@ -27,9 +31,11 @@ loop-turn-preserved g c =
 pub returns-in_default : goal.returns-in_default
 returns-in_default g c =
     let so_far = c.loop-turn.invariant.1 in
-    let called : CalledAtMut g.N.FnMut c.loop-turn.next c.loop-turn.input (Ok c.in_ok-case.field-0) c.next.new.self c.next.new.arg2 =
+    let called :
+    CalledAtMut g.N.FnMut c.loop-turn.next c.loop-turn.input (Ok c.in_ok-case.field-0) c.next.new.self c.next.new.arg2 =
     record { shown = _; shows = refl; left = _; called = c.in_ok-case.ensures; leaves = refl } in
-    let none : CalledAtMut g.N.FnMut c.loop-turn.next c.loop-turn.input (Ok None) c.next.new.self c.next.new.arg2 = rw c.in_default.is at called in
+    let none : CalledAtMut g.N.FnMut c.loop-turn.next c.loop-turn.input (Ok None) c.next.new.self c.next.new.arg2 =
+    rw c.in_default.is at called in
     (so_far.0, ended _ _ _ _ _ _ _ _ _ _ _ c.loop-turn-test.true none so_far.2, so_far.1)
 
 pub returns : goal.returns

@@ -10,5 +10,6 @@ abbrev pub invariant-loop-turn : goal.invariant-loop-turn
 invariant-loop-turn g l =
     always_mut g.N.FnMut l.next
     × ((text : List ℕ) × Appends (g.W.Write.contents l.initial.output) (g.W.Write.contents l.output) text
-    × Ahead (λ f s found f' s'. CalledAtMut g.N.FnMut f s (Ok found) f' s') (λ case text. (v : _) × FnReturns g.F.Fn l.answer (case, tt) (Ok v) × (vec_items v ≡ text))
+    × Ahead (λ f s found f' s'. CalledAtMut g.N.FnMut f s (Ok found) f' s')
+    (λ case text. (v : _) × FnReturns g.F.Fn l.answer (case, tt) (Ok v) × (vec_items v ≡ text))
     l.most l.initial.next l.initial.input (l.most - l._turn) l.next l.input text)

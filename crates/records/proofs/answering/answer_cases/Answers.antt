@@ -4,5 +4,6 @@ use Rattle.records.proofs.answering.answer_cases.Goals as goal
 
 pub returns : goal.returns
 returns g c =
-    viewed_all _ _ _ vec_items g.R.Read.remaining _ _ (λ s found h t called. search rules) (λ s found h t called. search rules)
+    viewed_all _ _ _ vec_items g.R.Read.remaining _ _ (λ s found h t called. search rules)
+    (λ s found h t called. search rules)
     (λ case text answered. (answered.0, search rules, answered.2)) _ _ _ _ c.answer_all.ensures

@@ -6,4 +6,5 @@ use Rattle.verdict.proofs.weighted.column_sum.Given as goal
 
 abbrev pub invariant-loop-i : goal.invariant-loop-i
 invariant-loop-i l =
-    (l.sum ≡ sum_below l.i (raised_in l.coefficients l.factors l.which l.margin l.cap)) × (l.sum ≤ l.i * (2 ^ 32 * l.cap))
+    (l.sum ≡ sum_below l.i (raised_in l.coefficients l.factors l.which l.margin l.cap))
+    × (l.sum ≤ l.i * (2 ^ 32 * l.cap))

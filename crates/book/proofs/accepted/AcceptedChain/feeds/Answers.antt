@@ -16,14 +16,25 @@ offset_bounds-chain-feeds_start c =
 
 pub slice_bounds-result-count : goal.slice_bounds-result-count
 slice_bounds-result-count c =
-    omega (arith, start_before_end c.args.self.chain.now.bytes.now c.args.i, c.feeds_start.ensures, c.feeds_end.ensures.value)
+    omega (
+      arith,
+      start_before_end c.args.self.chain.now.bytes.now c.args.i,
+      c.feeds_start.ensures,
+      c.feeds_end.ensures.value,
+    )
 
 pub slice_bounds-result-start : goal.slice_bounds-result-start
 slice_bounds-result-start c =
-    omega (arith, start_before_end c.args.self.chain.now.bytes.now c.args.i, c.feeds_start.ensures, c.feeds_end.ensures.value)
+    omega (
+      arith,
+      start_before_end c.args.self.chain.now.bytes.now c.args.i,
+      c.feeds_start.ensures,
+      c.feeds_end.ensures.value,
+    )
 
 pub returns : goal.returns
 returns c =
     let book = c.args.self.chain.now.bytes.now in
-    let place : c.args.i < member_places book = rw (all_members (accepted_ranges book c.args.self.accepted)) c.requires in
+    let place : c.args.i < member_places book =
+    rw (all_members (accepted_ranges book c.args.self.accepted)) c.requires in
     rw (c.feeds_start.ensures, c.feeds_end.ensures.value) (feeds_at c.args.self.chain.now.held c.args.i place)

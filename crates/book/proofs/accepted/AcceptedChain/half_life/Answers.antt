@@ -14,5 +14,6 @@ bounds-self-i c = omega (arith, (accepted_ranges _ c.args.self.accepted).members
 pub returns : goal.returns
 returns c =
     let book = c.args.self.chain.now.bytes.now in
-    let place : c.args.i < member_places book = rw (all_members (accepted_ranges book c.args.self.accepted)) c.requires in
+    let place : c.args.i < member_places book =
+    rw (all_members (accepted_ranges book c.args.self.accepted)) c.requires in
     half_life_at c.args.self.chain.now.held c.args.i place

@@ -7,4 +7,9 @@ returns-clause-value c = c.from.ensures ∙ end_at c.args.self.now.held c.args.i
 
 pub returns-clause-within : goal.returns-clause-within
 returns-clause-within c =
-    omega (arith, c.from.ensures, end_at c.args.self.now.held c.args.i c.requires, feeds_fit c.args.self.now.bytes.now (suc c.args.i))
+    omega (
+      arith,
+      c.from.ensures,
+      end_at c.args.self.now.held c.args.i c.requires,
+      feeds_fit c.args.self.now.bytes.now (suc c.args.i),
+    )

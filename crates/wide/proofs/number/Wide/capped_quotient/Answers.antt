@@ -1,5 +1,5 @@
--- Whether the next multiple passes is a test that goes on holding, and the first number at which it holds is the largest
--- whose own multiple does not.
+-- Whether the next multiple passes is a test that goes on holding, and the first number at which it holds is the
+-- largest whose own multiple does not.
 use Rattle.std.proofs.Common.{le_refl, rules}
 use Rattle.wide.proofs.Halving.{passes_after, passes_rises, largest_found}
 use Rattle.wide.proofs.number.Wide.capped_quotient.Goals as goal

@@ -7,6 +7,7 @@ use Rattle.wide.proofs.number.Wide.exact_multiple.Goals as goal
 pub returns-clause-whole : goal.returns-clause-whole
 returns-clause-whole c =
     rw (← c.self.view_is)
-    (sym (multiple_columns c.self.inside.limbs c.from_fn.result c.args.k c.self.invariant.six c.from_fn.ensures.items.long
+    (sym
+    (multiple_columns c.self.inside.limbs c.from_fn.result c.args.k c.self.invariant.six c.from_fn.ensures.items.long
     (made_by _ c.from_fn.ensures.items (λ i y q called. search rules)))
     ∙ c.settle.ensures.whole)

@@ -9,7 +9,8 @@ pub returns : goal.returns
 returns c =
     rw (← c.self.view_is, ← c.other.view_is)
     (remainder_is _
-    (sym (sum_columns c.self.inside.limbs c.other.inside.limbs c.from_fn.result c.self.invariant.six c.other.invariant.six
+    (sym
+    (sum_columns c.self.inside.limbs c.other.inside.limbs c.from_fn.result c.self.invariant.six c.other.invariant.six
     c.from_fn.ensures.items.long (made_by _ c.from_fn.ensures.items (λ i y q called. search rules)))
     ∙ c.settle-settled.ensures.whole)
     c.settle-settled.ensures.within)
