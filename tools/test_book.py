@@ -1,4 +1,4 @@
-"""The text form: its bytes, round trips, mistakes, warnings and notes; then the commands (test_command.py).
+"""The text form: its bytes, round trips, mistakes and grounds; then the other tests of this folder.
 
     test_book.py
 
@@ -14,6 +14,8 @@ import sys
 from fractions import Fraction
 
 import test_command
+import test_shares
+from samples import ALONE, RADON, accounted, changed, foreseen, mistake_of, noted
 from textform import grounds, remarks
 from textform.decode import decode, group_lines
 from textform.encode import encode
@@ -26,45 +28,6 @@ sys.path.insert(0, str(HERE.parent / "docs" / "src"))
 import recorded  # noqa: E402
 import reference  # noqa: E402  (the check from outside, for what screen refuses)
 from tally import run_tests, say_passed  # noqa: E402
-
-RADON = """\
-rate 18
-kind risk            # a comment
-medium indoor-air
-unit pCi/L
-target 1_610
-attenuation 1_000_000
-value 4.0
-uncertainty 0.5
-child 350 6 24 10
-adult 350 20 24 20
-
-divisor 1_000
-member Rn-222 half-life 3.8235d inhalation-risk 0 submersion-risk 0 weight 0
-member Po-218 half-life 3.10m inhalation-risk 1000 submersion-risk 0 weight 61_134
-member half-life 26.8m inhalation-risk 0 submersion-risk 7 weight 0   # no name: only its number
-feed 100_000 from Rn-222 into Po-218
-feed 99_980 from Po-218 into 2
-"""
-ALONE = """\
-divisor 75
-member half-life 1 inhalation-risk 0 submersion-risk 0 inhalation-dose 0 submersion-dose 0 weight 0
-member A half-life 1ns weight 0 inhalation-risk 0 submersion-risk 0 inhalation-dose 0 submersion-dose 0
-"""
-
-
-def changed(old, new, text=RADON):
-    assert text.count(old) == 1, old
-    return text.replace(old, new)
-
-
-def mistake_of(call, *arguments):
-    try:
-        call(*arguments)
-    except Mistake as mistake:
-        return f"line {mistake.line}: {mistake}"
-    raise AssertionError(f"no mistake found in {arguments}")
-
 
 # ---- Bytes and round trips ----------------------------------------------------------------------
 
@@ -93,7 +56,7 @@ def test_round_trip():
 def test_numbers_and_order():
     """Feed numbers and the order of a chain both survive."""
     shuffled = ALONE + "feed 1 from 0 into A number 2\nfeed 2 from 0 into A number 3\nfeed 3 from 0 into 1 number 1\n"
-    data = encode(shuffled)
+    data = encode(accounted(shuffled))
     assert data[8 + 32 + 28] == 2  # first
     assert [data[8 + 64 + 8 * k + 5] for k in range(3)] == [0, 3, 1]  # next
     assert encode(decode(data)) == data
@@ -115,7 +78,7 @@ def test_half_lives():
 def test_both_forms_fit():
     """A job whose rate looks like a book's counts: the tool asks instead of guessing."""
     text = changed("rate 18", "rate 514")
-    data = encode(text[: text.index("member Po-218")])  # parent alone: 88 bytes, and 8 + 32 * 2 + 8 * 2 too
+    data = encode(accounted(text[: text.index("member Po-218")]))  # parent alone: 88 bytes, and 8 + 32 * 2 + 8 * 2 too
     assert "--book or --job" in mistake_of(decode, data)
     assert encode(decode(data, "job")) == data
 
@@ -360,10 +323,6 @@ def test_any_text():
 # ---- Warnings and notes -------------------------------------------------------------------------
 
 
-def foreseen(text):
-    return [(remark.ground, remark.line) for remark in remarks.grounds(*read_text(text))]
-
-
 def refused(data):
     """The ground that the reference refuses for, or None."""
     said = reference.answer(data).split()
@@ -411,27 +370,15 @@ def test_grounds_foreseen():
         (RADON + "feed 21 from Po-218 into 2\n", 18, 18),
         (RADON + "feed 20 from Po-218 into 2\n", None, 0),
     ):
+        text = accounted(text)
         found = foreseen(text)
         assert (found[0] if found else (None, 0)) == (ground, line), (found, ground, line)
         assert refused(encode(text)) == ground, ground
 
 
-def noted(text):
-    return [f"line {note.line}: {note.said}" for note in remarks.notes(*read_text(text))]
-
-
 def test_notes():
-    ends = "line 15: the chain ends with member 2: nothing follows"
-    assert noted(RADON) == ["line 14: Po-218: 99,980 of 100,000 shares out: nothing follows the other 20", ends]
-    assert noted(changed("feed 99_980", "feed 100_000")) == [ends]
-    parent = RADON[: RADON.index("member Po-218")]
+    parent = accounted(RADON[: RADON.index("member Po-218")])
     assert noted(parent) == ["line 2: kind risk: every inhalation-risk and submersion-risk is 0, so every room is 'below'"]
-    radon = (HERE.parent / "examples" / "radon.txt").read_text(encoding="utf-8")
-    forgotten = "line 18: Pb-214: 0 of 100,000 shares out: nothing follows it"
-    assert forgotten in noted(changed("feed 100_000 from Pb-214 into Bi-214\n", "", radon))
-    assert len(noted(radon)) == 1
-    later = noted(changed("feed 100_000 from Rn-218 into Po-214\n", "", radon))
-    assert "ends with Rn-218, Po-214, Tl-210" in later[0]
 
 
 def test_documents():
@@ -460,7 +407,7 @@ def check_cases(jobs):
 
 
 def main():
-    count = run_tests(globals()) + run_tests(vars(test_command))
+    count = run_tests(globals()) + sum(run_tests(vars(others)) for others in (test_shares, test_command))
     check_cases([job for job, _ in recorded.read_cases(recorded.JOB)])
     say_passed(count + 1)
 

@@ -1,9 +1,11 @@
-"""The member and feed lines of a text into a chain book, each number with the line that it comes from."""
+"""The lines of a text into a chain book, each number with the line that it comes from."""
 
 import re
 from typing import NamedTuple
 
-from .words import HALF_LIFE_FORM, Mistake, NANOSECONDS, WHOLE, half_life, shown, whole
+from .feeds import feed_of, numbered
+from .shares import check_accounted, rest_of
+from .words import HALF_LIFE_FORM, Mistake, NANOSECONDS, half_life, shown, whole
 
 COEFFICIENTS = {  # of a member, in the order of the bytes, each with its unit
     "inhalation-risk": "whole 10^-17 per pCi",
@@ -13,7 +15,6 @@ COEFFICIENTS = {  # of a member, in the order of the bytes, each with its unit
     "weight": "whole alpha energy weight, such as ten-thousandths of MeV",
 }
 NAME = re.compile(r"[A-Za-z][A-Za-z0-9-]{0,39}\Z")
-FEED_FORM = "feed SHARE from MEMBER into MEMBER, and at the end 'number N' where feeds are numbered"
 
 
 class Member(NamedTuple):
@@ -26,18 +27,11 @@ class Member(NamedTuple):
         return [self.given.get(word, 0) for word in COEFFICIENTS]
 
 
-class Feed(NamedTuple):
-    share: int
-    origin: int
-    into: int
-    number: int
-    line: int
-
-
 class Book(NamedTuple):
     divisor: int
     members: list
     feeds: list
+    rests: list  # what the text says of the shares that no feed carries on; the bytes say nothing of them
     line: int  # of the divisor
 
     def label(self, i):
@@ -92,9 +86,12 @@ def book_of(text, kind):
         raise Mistake("a book holds at most 255 members and 255 feeds")
     for i, member in enumerate(text.members):
         check_stated(member, i, kind)
-    names = numbers_of_names(text.members)
-    feeds = numbered([feed_of(words, names, len(text.members), line) for words, line in text.feeds])
-    return Book(divisor, text.members, feeds, line)
+    names, n = numbers_of_names(text.members), len(text.members)
+    feeds = numbered([feed_of(words, names, n, line) for words, line in text.feeds])
+    rests = [rest_of(word, words, names, n, line) for word, words, line in text.rests]
+    book = Book(divisor, text.members, feeds, rests, line)
+    check_accounted(book)
+    return book
 
 
 def stated(kind):
@@ -119,39 +116,3 @@ def numbers_of_names(members):
         if member.name is not None:
             names[member.name] = i
     return names
-
-
-def member_number(which, word, names, n, line):
-    """The number of the member that a feed comes `from` or goes `into`."""
-    if word in names:
-        return names[word]
-    if not WHOLE.match(word):
-        raise Mistake(f"{which} {shown(word)}: no member line has this name", line)
-    number = whole(word, 1, which, "a member's number", line)
-    if number >= n:
-        raise Mistake(f"{which} {word}: " + (f"the members are 0 to {n - 1}" if n else "there is no member"), line)
-    return number
-
-
-def feed_of(words, names, n, line):
-    """A feed line; its number is None where it states none."""
-    if len(words) not in (5, 7) or words[1] != "from" or words[3] != "into" or words[5:6] not in ([], ["number"]):
-        raise Mistake(f"feed {shown(' '.join(words))}: a feed line is {FEED_FORM}", line)
-    share = whole(words[0], 4, "feed", "whole hundred-thousandths", line, 100_000)
-    number = whole(words[6], 1, "number", "a whole number", line) if len(words) == 7 else None
-    origin, into = member_number("from", words[2], names, n, line), member_number("into", words[4], names, n, line)
-    return Feed(share, origin, into, number, line)
-
-
-def numbered(feeds):
-    """The feeds with their numbers: all given, or all by line."""
-    if all(feed.number is None for feed in feeds):
-        return [feed._replace(number=k) for k, feed in enumerate(feeds, 1)]
-    taken = set()
-    for feed in feeds:
-        if feed.number is None:
-            raise Mistake("some feeds have a number, so this one needs one too", feed.line)
-        if not 1 <= feed.number <= len(feeds) or feed.number in taken:
-            raise Mistake(f"number {feed.number}: the feeds' numbers are 1 to {len(feeds)}, each once", feed.line)
-        taken.add(feed.number)
-    return feeds

@@ -3,6 +3,7 @@
 import struct
 
 from .chain import COEFFICIENTS, numbers_of_names
+from .shares import rest_lines
 from .text import EXPOSURES, KINDS, MEDIA, UNITS, Group, Text
 from .words import Mistake, reading_text
 
@@ -116,7 +117,8 @@ def decode_book(data, names_source=None):
     members = [struct.unpack_from("<Q5IB3s", data, 8 + 32 * i) for i in range(n)]
     feeds = [struct.unpack_from("<IBB2s", data, 8 + 32 * n + 8 * k) for k in range(m)]
     names = names_of(names_source, members)
-    return ["# Book", f"divisor {W}"] + member_lines(members, names) + feed_lines(members, feeds, names)
+    lines = ["# Book", f"divisor {W}"] + member_lines(members, names) + feed_lines(members, feeds, names)
+    return lines + list(rest_lines(feeds, names))
 
 
 def decode(data, form=None, names_source=None):

@@ -8,14 +8,15 @@ from math import ceil
 from typing import NamedTuple
 
 from .chain import COEFFICIENTS, stated
+from .feeds import SHARES
 from .hours import MOST_QUARTERS
+from .shares import shares_out
 from .text import GROUP, KINDS, MEDIA, UNITS, Group
 from .words import number_of
 
 MOST = 4_000_000_000  # of a concentration, a coefficient or a weight
 MOST_IN_GROUP = Group(366, 100, MOST_QUARTERS, 100)
 PER_UNIT = (37_000, 37, 1_000)  # mBq/m3 in one of each unit
-SHARES = 100_000
 LONGEST_PARENT, LONGEST_LATER = 10**15, 60_000 * 10**9  # half-lives in nanoseconds
 
 
@@ -137,14 +138,10 @@ def unfed(book):
 
 def shares_over(book):
     for i in range(len(book.members)):
-        out = shares_out(book, i)
+        out = shares_out(book.feeds, i)
         if out > SHARES:
             line = [feed.line for feed in book.feeds if feed.origin == i][-1]
             yield Remark(18, line, f"{book.label(i)}: {out:,} of 100,000 shares out, which is too many")
-
-
-def shares_out(book, i):
-    return sum(feed.share for feed in book.feeds if feed.origin == i)
 
 
 def grounds(job, book):
@@ -158,27 +155,16 @@ def grounds(job, book):
 
 def notes(job, book):
     """What is allowed, and deserves a second look."""
-    return list(partly_followed(book)) + list(chain_ends(book)) + list(all_zero(job, book))
+    return list(early_ends(book)) + list(all_zero(job, book))
 
 
-def partly_followed(book):
-    for i, member in enumerate(book.members):
-        out = shares_out(book, i)
-        if 0 < out < SHARES:
-            said = f"{book.label(i)}: {out:,} of 100,000 shares out"
-            yield Remark(0, member.line, f"{said}: nothing follows the other {SHARES - out:,}")
-
-
-def chain_ends(book):
-    """The last members have no shares out: one note names them. Before a member that has some, each gets its own."""
-    out = [shares_out(book, i) for i in range(len(book.members))]
-    last = max((i for i in range(len(out)) if out[i]), default=-1)
-    for i in range(last):
-        if out[i] == 0:
-            yield Remark(0, book.members[i].line, f"{book.label(i)}: 0 of 100,000 shares out: nothing follows it")
-    ends = range(last + 1, len(out))
-    if len(out) > 1 and ends:
-        yield Remark(0, book.members[ends[0]].line, f"the chain ends with {', '.join(map(book.label, ends))}: nothing follows")
+def early_ends(book):
+    """Shares that end although the chain goes on after them: where it ends as a whole, nothing has to be said."""
+    last = max((feed.origin for feed in book.feeds), default=-1)
+    for rest in book.rests:
+        if rest.word == "ends" and rest.origin <= last:
+            said = f"ends {rest.share:,} from {book.label(rest.origin)}: nothing follows them, and the chain goes on"
+            yield Remark(0, rest.line, f"{said} from {book.label(last)}")
 
 
 def all_zero(job, book):

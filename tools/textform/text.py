@@ -13,7 +13,7 @@ UNITS = ("pCi/L", "pCi/m3", "Bq/m3")
 GROUP = ("days per year", "years", "hours per day", "m3 breathed per day")
 TARGETS = ("whole billionths of risk", "whole thousandths of mrem per year")
 JOB_WORDS = ("rate", "kind", "medium", "unit", "target", "attenuation", "value", "uncertainty", "child", "adult")
-LINE_WORDS = JOB_WORDS + ("exposure", "divisor", "member", "feed")
+LINE_WORDS = JOB_WORDS + ("exposure", "divisor", "member", "feed", "ends", "surplus")
 
 
 class Group(NamedTuple):
@@ -51,10 +51,10 @@ class Job(NamedTuple):
 
 
 class Text:
-    """The fields, members and feeds that the lines of a text say."""
+    """The fields, members, feeds and other shares that the lines of a text say."""
 
     def __init__(self, source):
-        self.fields, self.members, self.feeds = {}, [], []
+        self.fields, self.members, self.feeds, self.rests = {}, [], [], []
         for line, raw in enumerate(re.split(r"\r\n|\r|\n", source), 1):
             words = raw.split("#")[0].split()
             if words:
@@ -67,6 +67,8 @@ class Text:
             self.members.append(member_of(rest, line))
         elif word == "feed":
             self.feeds.append((rest, line))
+        elif word in ("ends", "surplus"):
+            self.rests.append((word, rest, line))
         elif word in self.fields:
             raise Mistake(f"{word}: was already given in line {self.fields[word][1]}", line)
         elif not rest:
