@@ -33,7 +33,7 @@ ends 100_000 from 2
 """
 ALONE = """\
 divisor 75
-member half-life 1 inhalation-risk 0 submersion-risk 0 inhalation-dose 0 submersion-dose 0 weight 0
+member half-life 1ns inhalation-risk 0 submersion-risk 0 inhalation-dose 0 submersion-dose 0 weight 0
 member A half-life 1ns weight 0 inhalation-risk 0 submersion-risk 0 inhalation-dose 0 submersion-dose 0
 """
 

@@ -14,14 +14,16 @@ import sys
 from fractions import Fraction
 
 import test_command
+import test_messages
 import test_shares
 from samples import ALONE, RADON, accounted, changed, foreseen, mistake_of, noted
 from textform import grounds, remarks
 from textform.decode import decode, group_lines
 from textform.encode import encode
+from textform.half_life import half_life
 from textform.hours import hours_text, quarters_of
 from textform.text import Group, Text, groups_of, read_text
-from textform.words import Mistake, half_life, number_of, reading, reading_text
+from textform.words import Mistake, number_of, reading, reading_text
 
 HERE = pathlib.Path(__file__).resolve().parent
 sys.path.insert(0, str(HERE.parent / "docs" / "src"))
@@ -71,7 +73,7 @@ def test_line_ends():
 
 
 def test_half_lives():
-    for word, expected in (("2.99E-7s", 299), ("1.781E-3s", 1_781_000), ("10.64h", 38_304 * 10**9), ("7", 7), ("1_000us", 10**6)):
+    for word, expected in (("2.99E-7s", 299), ("1.781E-3s", 1_781_000), ("10.64h", 38_304 * 10**9), ("1_000us", 10**6)):
         assert half_life(word, 1) == expected
 
 
@@ -87,7 +89,7 @@ def test_names():
     """Names come back from a text of the same chain, and from no other."""
     data = encode(RADON)
     text = decode(data, None, RADON)
-    assert "member Po-218 half-life 186000000000" in text and "feed 99980 from Po-218 into 2" in text
+    assert "member Po-218 half-life 3.1m" in text and "feed 99980 from Po-218 into 2" in text
     assert encode(text) == data
     for other, part in ((changed("3.10m", "3.11m"), "line 14: is of another chain: its member 1"), (ALONE, "it has 2 members")):
         assert part in mistake_of(decode, data, None, other)
@@ -287,7 +289,7 @@ def test_mistakes():
         found = mistake_of(encode, changed(old, new))
         assert found.startswith(f"line {line}:") and part in found, found
         assert "so" in part or not re.search(r", so [0-9]", found), f"a guess: {found}"
-    assert "divisor" in mistake_of(encode, "member half-life 1")
+    assert "divisor" in mistake_of(encode, "member half-life 1ns")
 
 
 def test_bad_bytes():
@@ -333,7 +335,7 @@ def test_grounds_foreseen():
     """Both edges of each limit that a text can pass, with its line; the reference agrees with the first."""
     assert foreseen(RADON) == [] and refused(encode(RADON)) is None
     soil, water = changed("medium indoor-air", "medium soil-gas"), changed("medium indoor-air", "medium groundwater")
-    member = "member half-life 1 inhalation-risk 0 submersion-risk 0 weight 0\n"
+    member = "member half-life 1ns inhalation-risk 0 submersion-risk 0 weight 0\n"
     many = "".join(f"{member}feed 1 from 0 into {i}\n" for i in range(3, 17))
     half = changed("feed 100_000", "feed 50_000")
     for text, ground, line in (
@@ -407,7 +409,7 @@ def check_cases(jobs):
 
 
 def main():
-    count = run_tests(globals()) + sum(run_tests(vars(others)) for others in (test_shares, test_command))
+    count = run_tests(globals()) + sum(run_tests(vars(others)) for others in (test_shares, test_messages, test_command))
     check_cases([job for job, _ in recorded.read_cases(recorded.JOB)])
     say_passed(count + 1)
 

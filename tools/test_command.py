@@ -194,7 +194,7 @@ def test_any_bytes(folder):
     text.write_bytes(b"\xef\xbb\xbf" + RADON.read_bytes())  # a BOM
     assert run("encode", text, job)[0] == 0
     for data, part in ((b"rate 18\n\xff\xfe", "line 2: the byte 0xff is not text in UTF-8"), (b"\0" * 99, "a line starts with"),
-                       (b"a" * 1_000_001, "longer than 1,000,000 bytes"), (b"", "no line for divisor")):
+                       (b"a" * 1_000_001, "longer than 1,000,000 bytes"), (b"", "the text is empty")):
         text.write_bytes(data)
         status, _, said = run("encode", text, job)
         assert status == 1 and said.startswith(str(text)) and part in said, said

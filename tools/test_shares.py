@@ -13,7 +13,7 @@ def test_missing_and_surplus():
     radon = example("radon")
     for text, member, found in (
         (changed("feed 100_000 from Pb-214 into Bi-214\n", "", radon), "line 18: Pb-214", "0 of 100,000, 100,000 are missing"),
-        (changed("feed 100_000 from Rn-222", "feed 100 from Rn-222", radon), "line 16: Rn-222", "100 of 100,000, 99,900 are missing"),
+        (changed("feed 100_000 from Rn-222", "feed 100 from Rn-222"), "line 13: Rn-222", "100 of 100,000, 99,900 are missing"),
         (changed("ends 100_000 from Tl-210\n", "", radon), "line 23: Tl-210", "0 of 100,000, 100,000 are missing"),
         (changed("ends 20", "ends 19"), "line 14: Po-218", "99,999 of 100,000, 1 are missing"),
         (changed("ends 20", "ends 21"), "line 14: Po-218", "100,001 of 100,000, which is 1 too many"),

@@ -4,8 +4,9 @@ import re
 from typing import NamedTuple
 
 from .feeds import feed_of, numbered
+from .half_life import FORM, NANOSECONDS, half_life
 from .shares import check_accounted, rest_of
-from .words import HALF_LIFE_FORM, Mistake, NANOSECONDS, half_life, shown, whole
+from .words import Mistake, shown, spaced_name, whole
 
 COEFFICIENTS = {  # of a member, in the order of the bytes, each with its unit
     "inhalation-risk": "whole 10^-17 per pCi",
@@ -50,7 +51,7 @@ def member_of(words, line):
         raise Mistake(f"member {shown(name)}: a name is a letter, then letters, digits and '-', at most 40 in all", line)
     for word in pairs[::2]:
         if word not in known:
-            raise Mistake(not_a_pair(word, pairs), line)
+            raise Mistake(not_a_pair(word, name, pairs), line)
     given = {}
     for word, number in zip(pairs[::2], pairs[1::2] + [None]):
         if word in given:
@@ -59,15 +60,18 @@ def member_of(words, line):
             raise Mistake(f"{word}: no number stands after it", line)
         given[word] = half_life(number, line) if word == "half-life" else whole(number, 4, word, COEFFICIENTS[word], line)
     if "half-life" not in given:
-        raise Mistake(f"member {name or ''}: needs a half-life, {HALF_LIFE_FORM}".replace(" :", ":"), line)
+        raise Mistake(f"member {name or ''}: needs a half-life, {FORM}".replace(" :", ":"), line)
     return Member(name, given.pop("half-life"), given, line)
 
 
-def not_a_pair(word, pairs):
+def not_a_pair(word, name, pairs):
     """What to say of a word that stands where one of the member's words should."""
     before = pairs[: pairs.index(word)]
+    spaced = spaced_name([name or "", word])
+    if spaced and not before:
+        return f"member {name} {shown(word)}: {spaced}"
     if before[-2:-1] == ["half-life"] and not before[-1][-1].isalpha():
-        form = f"without a space, so {shown(before[-1])}{word}" if word in NANOSECONDS else HALF_LIFE_FORM
+        form = f"without a space, so {shown(before[-1])}{word}" if word in NANOSECONDS else FORM
         return f"half-life {shown(before[-1])} {shown(word)}: {form}"
     return f"a member has half-life, {', '.join(COEFFICIENTS)}, each with its number, and no {shown(word)}"
 

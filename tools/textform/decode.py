@@ -3,6 +3,7 @@
 import struct
 
 from .chain import COEFFICIENTS, numbers_of_names
+from .half_life import half_life_text
 from .shares import rest_lines
 from .text import EXPOSURES, KINDS, MEDIA, UNITS, Group, Text
 from .words import Mistake, reading_text
@@ -83,7 +84,7 @@ def same_chain_names(source, members):
         raise Mistake(f"is of another chain: it has {len(named)} members, the bytes {len(members)}")
     for i, (ours, theirs) in enumerate(zip(named, members)):
         if ours.half_life != theirs[0]:
-            lives = f"{ours.half_life} ns, the bytes {theirs[0]}"
+            lives = f"{half_life_text(ours.half_life)}, the bytes {half_life_text(theirs[0])}"
             raise Mistake(f"is of another chain: its member {i} has the half-life {lives}", ours.line)
     return [member.name for member in named]
 
@@ -94,7 +95,7 @@ def member_lines(members, names):
         need_zero(member[7], f"member {i}")
         pairs = " ".join(f"{word} {number}" for word, number in zip(COEFFICIENTS, member[1:6]))
         name = f"{names[i]} " if names[i] else ""
-        lines.append(f"member {name}half-life {member[0]} {pairs}  # member {i}")
+        lines.append(f"member {name}half-life {half_life_text(member[0])} {pairs}  # member {i}")
     return lines
 
 

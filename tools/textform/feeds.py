@@ -2,7 +2,7 @@
 
 from typing import NamedTuple
 
-from .words import Mistake, WHOLE, shown, whole
+from .words import Mistake, WHOLE, shown, spaced_name, whole
 
 SHARES = 100_000  # out of each member, in all
 FEED_FORM = "feed SHARE from MEMBER into MEMBER, and at the end 'number N' where feeds are numbered"
@@ -31,7 +31,8 @@ def member_number(which, word, names, n, line):
 def feed_of(words, names, n, line):
     """A feed line; its number is None where it states none."""
     if len(words) not in (5, 7) or words[1] != "from" or words[3] != "into" or words[5:6] not in ([], ["number"]):
-        raise Mistake(f"feed {shown(' '.join(words))}: a feed line is {FEED_FORM}", line)
+        form = spaced_name(words) or f"a feed line is {FEED_FORM}"
+        raise Mistake(f"feed {shown(' '.join(words))}: {form}", line)
     share = whole(words[0], 4, "feed", "whole hundred-thousandths", line, SHARES)
     number = whole(words[6], 1, "number", "a whole number", line) if len(words) == 7 else None
     origin, into = member_number("from", words[2], names, n, line), member_number("into", words[4], names, n, line)

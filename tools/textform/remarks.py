@@ -3,6 +3,7 @@
 The limits are those of the nineteen grounds, worked out again here. Nothing is decided by them: `screen` decides.
 """
 
+from decimal import Decimal
 from fractions import Fraction
 from math import ceil
 from typing import NamedTuple
@@ -83,8 +84,14 @@ def reading_too_large(job):
     for word, number in parts.items():
         if number > MOST:
             line = job.lines.get(word, job.lines["value"])
-            return [Remark(8, line, f"{word}, {number:,} mBq/m3: at most {MOST:,}")]
+            in_unit = "" if word == "indoors" else f", which is {MOST // scale:,} {UNITS[job.unit]}"
+            return [Remark(8, line, f"{word}, {amount(number)} mBq/m3: too large; at most {MOST:,}{in_unit}")]
     return []
+
+
+def amount(number):
+    """A long number by its first digits."""
+    return f"{number:,}" if number < 10**15 else f"{Decimal(number):.1E}"
 
 
 # ---- Grounds of the book ------------------------------------------------------------------------

@@ -7,7 +7,7 @@ more than the whole out of a member (ground 18) have a text too: it says so by `
 from typing import NamedTuple
 
 from .feeds import SHARES, member_number
-from .words import Mistake, shown, whole
+from .words import Mistake, shown, spaced_name, whole
 
 
 class Rest(NamedTuple):
@@ -20,7 +20,8 @@ class Rest(NamedTuple):
 def rest_of(word, words, names, n, line):
     """A line `ends` or `surplus`."""
     if len(words) != 3 or words[1] != "from":
-        raise Mistake(f"{word} {shown(' '.join(words))}: the line is {word} SHARE from MEMBER", line)
+        form = spaced_name(words) or f"the line is {word} SHARE from MEMBER"
+        raise Mistake(f"{word} {shown(' '.join(words))}: {form}", line)
     share = whole(words[0], 8, word, "whole hundred-thousandths", line, SHARES)
     if share == 0:
         raise Mistake(f"{word} 0: leave the line out", line)

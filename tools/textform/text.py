@@ -76,6 +76,9 @@ class Text:
         else:
             self.fields[word] = (rest, line)
 
+    def is_empty(self):
+        return not (self.fields or self.members or self.feeds or self.rests)
+
     def one(self, word, expected):
         """The single word of a field, and its line."""
         rest, line = self.fields[word]
@@ -115,7 +118,7 @@ def job_of(text):
 
     def listed(word, names):
         rest, line = text.fields[word]
-        return one_of(rest, names, word, line)
+        return one_of([word.replace("\u00b3", "3") for word in rest], names, word, line)
 
     kind, unit = listed("kind", KINDS), listed("unit", UNITS)
     unit_name = UNITS[unit] if unit < len(UNITS) else "the unit"
@@ -176,5 +179,7 @@ def group_of(text, word):
 def read_text(source):
     """The job (None in a book alone) and the book that a text says."""
     text = Text(source)
+    if text.is_empty():
+        raise Mistake("the text is empty: no line of it says anything; examples/radon.txt is a whole one")
     job = job_of(text)
     return job, book_of(text, job.kind if job else None)

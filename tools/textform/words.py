@@ -11,9 +11,6 @@ MOST_EXPONENT_DIGITS = 3
 NUMBER = re.compile(r"([0-9]+(_[0-9]+)*(\.[0-9]*)?|\.[0-9]+)([eE][+-]?(?P<exponent>[0-9]+))?\Z")
 WHOLE = re.compile(r"[0-9]+(_[0-9]+)*\Z")
 BITS = re.compile(r"0x[0-9a-fA-F]{16}\Z")
-HALF_LIFE = re.compile(r"([0-9_.]+([eE][+-]?[0-9]+)?)([a-zA-Z]*)\Z")
-NANOSECONDS = {"": 1, "ns": 1, "us": 10**3, "ms": 10**6, "s": 10**9, "m": 60 * 10**9, "h": 3_600 * 10**9, "d": 86_400 * 10**9}
-HALF_LIFE_FORM = "a number and its unit without a space, ns, us, ms, s, m (minutes), h or d (without a unit ns), such as 3.10m"
 
 
 class Mistake(Exception):
@@ -60,6 +57,14 @@ def whole(word, size, what, expected, line, scale=None):
     return fitting(int(number), size, f"{what} {word}: {expected}", line)
 
 
+def spaced_name(words):
+    """What to say where a name may have been written with a space, such as `Pb 214`."""
+    for name, number in zip(words, words[1:]):
+        if name.isalpha() and name[0].isupper() and WHOLE.match(number):
+            return f"a name is one word, without a space, so {shown(name)}-{shown(number)}"
+    return ""
+
+
 def fitting(number, size, said, line):
     most = (1 << 8 * size) - 1
     if number > most:
@@ -98,7 +103,7 @@ def reading(word, what, unit, line):
         raise Mistake(f"{what} {shown(word)}: {form}{hint(word, None, None)}", line)
     bits = bits_not_below(number)
     if bits == 0x7FF << 52:
-        raise Mistake(f"{what} {shown(word)}: too large for an f64", line)
+        raise Mistake(f"{what} {shown(word)}: too large: no f64 holds it, and screen takes far less", line)
     if word[0] != "-":
         return bits
     is_exact = number_of(bits) == number
@@ -119,14 +124,3 @@ def reading_text(bits):
         if bits_not_below(Fraction(short)) == bits:
             break
     return format(short, "f") if 1e-9 < short < 1e16 else str(short)
-
-
-def half_life(word, line):
-    parts = HALF_LIFE.match(word)
-    number = exact(parts[1], "half-life", line) if parts else None
-    if number is None or parts[3] not in NANOSECONDS:
-        raise Mistake(f"half-life {shown(word)}: {HALF_LIFE_FORM}{hint(word, None, None)}", line)
-    nanoseconds = number * NANOSECONDS[parts[3]]
-    if nanoseconds.denominator != 1:
-        raise Mistake(f"half-life {word}: a whole number of nanoseconds, which this is not", line)
-    return fitting(int(nanoseconds), 8, f"half-life {word}: nanoseconds", line)
