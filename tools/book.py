@@ -17,6 +17,7 @@ import sys
 from textform.decode import decode
 from textform.encode import all_bytes
 from textform.grounds import GROUNDS, explained
+from textform.looks_wrong import warnings
 from textform.remarks import grounds, notes
 from textform.text import read_text
 from textform.words import Mistake, shown
@@ -143,11 +144,12 @@ def encode_file(source, out, book_alone=False):
 
 
 def tell_remarks(source, job, book):
-    for note in notes(job, book):
-        tell(f"{place(source, note.line)}: note: {note.said}")
+    for what, remarks in (("warning", warnings(job, book)), ("note", notes(job, book))):
+        for remark in remarks:
+            tell(f"{place(source, remark.line)}: {what}: {remark.said}")
     found = grounds(job, book)
     for remark in found:
-        tell(f"{place(source, remark.line)}: warning: {remark.said} (ground {remark.ground})")
+        tell(f"{place(source, remark.line)}: to be refused: {remark.said} (ground {remark.ground})")
     if found:
         decider = "screen" if job else "the factor call"
         tell(f"{source}: {decider} decides, not this tool; expect 'refused {found[0].ground}'")

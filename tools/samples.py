@@ -2,7 +2,7 @@
 
 import pathlib
 
-from textform import remarks
+from textform import looks_wrong, remarks
 from textform.chain import numbers_of_names
 from textform.feeds import feed_of
 from textform.shares import rest_lines
@@ -70,3 +70,7 @@ def foreseen(text):
 
 def noted(text):
     return [f"line {note.line}: {note.said}" for note in remarks.notes(*read_text(text))]
+
+
+def warned(text):
+    return [f"line {warning.line}: {warning.said}" for warning in looks_wrong.warnings(*read_text(text))]

@@ -16,7 +16,8 @@ from fractions import Fraction
 import test_command
 import test_messages
 import test_shares
-from samples import ALONE, RADON, accounted, changed, foreseen, mistake_of, noted
+import test_target
+from samples import ALONE, RADON, accounted, changed, foreseen, mistake_of, noted, warned
 from textform import grounds, remarks
 from textform.decode import decode, group_lines
 from textform.encode import encode
@@ -29,6 +30,7 @@ HERE = pathlib.Path(__file__).resolve().parent
 sys.path.insert(0, str(HERE.parent / "docs" / "src"))
 import recorded  # noqa: E402
 import reference  # noqa: E402  (the check from outside, for what screen refuses)
+import test_looks_wrong  # noqa: E402
 from tally import run_tests, say_passed  # noqa: E402
 
 # ---- Bytes and round trips ----------------------------------------------------------------------
@@ -312,7 +314,8 @@ def test_any_text():
         for _ in range(chance.randrange(1, 4)):
             lines[chance.randrange(len(lines))] = " ".join(chance.choices(words, k=chance.randrange(7)))
         try:
-            answer = remarks.grounds(*read_text("\n".join(lines))), remarks.notes(*read_text("\n".join(lines)))
+            text = "\n".join(lines)
+            answer = foreseen(text), noted(text), warned(text)
         except Mistake as mistake:
             answer = mistake
         assert answer is not None
@@ -378,18 +381,13 @@ def test_grounds_foreseen():
         assert refused(encode(text)) == ground, ground
 
 
-def test_notes():
-    parent = accounted(RADON[: RADON.index("member Po-218")])
-    assert noted(parent) == ["line 2: kind risk: every inhalation-risk and submersion-risk is 0, so every room is 'below'"]
-
-
 def test_documents():
     """The README shows the table of the grounds, the manual says every word, and its example can be encoded."""
     assert grounds.table() in (HERE.parent / "README.md").read_text(encoding="utf-8")
     assert list(grounds.GROUNDS) == list(range(1, 23))
     manual = (HERE / "MANUAL.md").read_text(encoding="ascii")
     example = manual[manual.index("    # A home") : manual.index("One line for each")]
-    assert foreseen(example) == []
+    assert foreseen(example) == warned(example) == noted(example) == []
 
 
 def check_cases(jobs):
@@ -409,7 +407,8 @@ def check_cases(jobs):
 
 
 def main():
-    count = run_tests(globals()) + sum(run_tests(vars(others)) for others in (test_shares, test_messages, test_command))
+    others = (test_shares, test_messages, test_target, test_looks_wrong, test_command)
+    count = run_tests(globals()) + sum(run_tests(vars(file)) for file in others)
     check_cases([job for job, _ in recorded.read_cases(recorded.JOB)])
     say_passed(count + 1)
 

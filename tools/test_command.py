@@ -77,7 +77,7 @@ def test_readme(folder):
 def workroom(folder):
     """A let workroom: its two lines, verdict and level of two shifts, and what encode says of hours that are no quarters."""
     lines = "child 0 0 0 0\nadult 250 25 7:45 60"
-    home = RADON.read_text().replace("target 100_000 ", "target 5_400_000 ")
+    home = RADON.read_text().replace("target 1 in 10_000 ", "target 5_400_000 ")
     (named,) = (line for line in home.splitlines() if line.startswith("exposure residential"))
 
     def encoded(hours):
@@ -98,8 +98,8 @@ def workroom(folder):
 def guide(folder):
     """Verdict and level of the guide's home at a target one thousandth of a mrem too low."""
     text = RADON.with_name("guide.txt").read_text()
-    assert text.count("target 6_195 ") == 1
-    (folder / "guide.txt").write_text(text.replace("target 6_195 ", "target 6_194 "))
+    assert text.count("target 6.195 mrem ") == 1
+    (folder / "guide.txt").write_text(text.replace("target 6.195 mrem ", "target 6_194 "))
     assert run("encode", "guide.txt", "guide.job", cwd=folder)[0] == 0
     return verdict_and_level((folder / "guide.job").read_bytes())
 
@@ -171,7 +171,7 @@ def test_warnings(folder):
     text.write_text(RADON.read_text().replace("rate 0.18 per hour", "rate 100_001"))
     status, _, said = run("encode", text, job)
     assert status == 0 and job.exists()
-    assert f"{text}, line 3: warning: rate 100001: at most 100,000 hundredths per hour (ground 3)\n" in said
+    assert f"{text}, line 3: to be refused: rate 100001: at most 100,000 hundredths per hour (ground 3)\n" in said
     assert f"{text}: screen decides, not this tool; expect 'refused 3'\n" in said
 
 

@@ -5,6 +5,7 @@ import struct
 from .chain import COEFFICIENTS, numbers_of_names
 from .half_life import half_life_text
 from .shares import rest_lines
+from .target import target_text
 from .text import EXPOSURES, KINDS, MEDIA, UNITS, Group, Text
 from .words import Mistake, reading_text
 
@@ -40,7 +41,7 @@ def decode_job(data):
         f"kind {listed_text(kind, KINDS)}",
         f"medium {listed_text(medium, MEDIA)}",
         f"unit {listed_text(unit, UNITS)}",
-        f"target {target}",
+        f"target {target_text(target, kind)}",
         f"attenuation {AF}",
         f"value {reading_text(value)}",
         f"uncertainty {reading_text(uncertainty)}",

@@ -1,4 +1,4 @@
-"""What to say about a text that was read: what `screen` can be expected to refuse, and what deserves a second look.
+"""What to say about a text that was read: what `screen` can be expected to refuse, and notes. What looks wrong is in looks_wrong.
 
 The limits are those of the nineteen grounds, worked out again here. Nothing is decided by them: `screen` decides.
 """
@@ -8,7 +8,7 @@ from fractions import Fraction
 from math import ceil
 from typing import NamedTuple
 
-from .chain import COEFFICIENTS, stated
+from .chain import COEFFICIENTS
 from .feeds import SHARES
 from .hours import MOST_QUARTERS
 from .shares import shares_out
@@ -22,7 +22,7 @@ LONGEST_PARENT, LONGEST_LATER = 10**15, 60_000 * 10**9  # half-lives in nanoseco
 
 
 class Remark(NamedTuple):
-    ground: int  # 0: none, only a note
+    ground: int  # 0: none
     line: int
     said: str
 
@@ -162,7 +162,7 @@ def grounds(job, book):
 
 def notes(job, book):
     """What is allowed, and deserves a second look."""
-    return list(early_ends(book)) + list(all_zero(job, book))
+    return list(early_ends(book))
 
 
 def early_ends(book):
@@ -172,11 +172,3 @@ def early_ends(book):
         if rest.word == "ends" and rest.origin <= last:
             said = f"ends {rest.share:,} from {book.label(rest.origin)}: nothing follows them, and the chain goes on"
             yield Remark(0, rest.line, f"{said} from {book.label(last)}")
-
-
-def all_zero(job, book):
-    if job is None or job.kind >= len(KINDS):
-        return
-    words = [word for word in stated(job.kind) if word != "weight"]
-    if all(member.given[word] == 0 for member in book.members for word in words):
-        yield Remark(0, job.lines["kind"], f"kind {KINDS[job.kind]}: every {' and '.join(words)} is 0, so every room is 'below'")

@@ -5,13 +5,12 @@ from typing import NamedTuple
 
 from .chain import book_of, member_of
 from .hours import hours_text, quarters_of
+from .target import KINDS, target_of
 from .words import Mistake, exact, fitting, one_of, reading, shown, whole
 
-KINDS = ("risk", "dose")
 MEDIA = ("indoor-air", "soil-gas", "groundwater")
 UNITS = ("pCi/L", "pCi/m3", "Bq/m3")
 GROUP = ("days per year", "years", "hours per day", "m3 breathed per day")
-TARGETS = ("whole billionths of risk", "whole thousandths of mrem per year")
 JOB_WORDS = ("rate", "kind", "medium", "unit", "target", "attenuation", "value", "uncertainty", "child", "adult")
 LINE_WORDS = JOB_WORDS + ("exposure", "divisor", "member", "feed", "ends", "surplus")
 
@@ -111,37 +110,39 @@ def job_of(text):
     """The job, or None where the text is a book alone."""
     if not text.has_job():
         return None
-
-    def number(word, expected, scale):
-        value, line = text.one(word, expected)
-        return whole(value, 4, word, expected, line, scale)
-
-    def listed(word, names):
-        rest, line = text.fields[word]
-        return one_of([word.replace("\u00b3", "3") for word in rest], names, word, line)
-
-    kind, unit = listed("kind", KINDS), listed("unit", UNITS)
-    unit_name = UNITS[unit] if unit < len(UNITS) else "the unit"
-    target = TARGETS[kind] if kind < len(TARGETS) else " or ".join(TARGETS)
-
-    def f64(word):
-        value, line = text.one(word, f"a decimal number of {unit_name} (its unit is the line 'unit')")
-        return reading(value, word, unit_name, line)
-
+    kind, (unit, unit_name) = listed(text, "kind", KINDS), unit_of(text)
+    attenuation, line = text.one("attenuation", "whole millionths")
     child, adult = groups_of(text)
     return Job(
         rate_of(*text.fields["rate"]),
         kind,
-        listed("medium", MEDIA),
+        listed(text, "medium", MEDIA),
         unit,
-        number("target", target, {0: 10**9, 1: 10**3}.get(kind)),
-        number("attenuation", "whole millionths", 10**6),
-        f64("value"),
-        f64("uncertainty"),
+        target_of(text.fields["target"][0], kind, text.fields["target"][1]),
+        whole(attenuation, 4, "attenuation", "whole millionths", line, 10**6),
+        reading_of(text, "value", unit_name),
+        reading_of(text, "uncertainty", unit_name),
         child,
         adult,
         {word: line for word, (_, line) in text.fields.items()},
     )
+
+
+def listed(text, word, names):
+    rest, line = text.fields[word]
+    return one_of(rest, names, word, line)
+
+
+def unit_of(text):
+    """The unit in the bytes, and the one that the text says."""
+    rest, line = text.fields["unit"]
+    unit = one_of([word.replace("\u00b3", "3") for word in rest], UNITS, "unit", line)
+    return unit, UNITS[unit] if unit < len(UNITS) else "the unit"
+
+
+def reading_of(text, word, unit_name):
+    value, line = text.one(word, f"a decimal number of {unit_name} (its unit is the line 'unit')")
+    return reading(value, word, unit_name, line)
 
 
 def rate_of(words, line):

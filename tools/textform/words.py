@@ -44,7 +44,7 @@ def hint(word, number, scale):
     """What may have been meant by a word that is not a whole number. A decimal above 1 could be in either unit: no guess."""
     if "," in word:
         return ", without commas"
-    if scale and number is not None and "." in word and number <= 1 and (number * scale).denominator == 1:
+    if scale and number is not None and not WHOLE.match(word) and number <= 1 and (number * scale).denominator == 1:
         return f", so {number * scale}"
     return ""
 
