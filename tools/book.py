@@ -2,7 +2,7 @@
 """Readable text into the bytes of a job with its chain book (or a book alone), and back.
 
     book.py encode [--book] TEXT OUT
-    book.py decode [--job | --book] [--names TEXT] BYTES
+    book.py decode [--job | --book] [--names TEXT] BYTES [OUT]
     book.py explain [NUMBER]
     book.py --help
 
@@ -11,11 +11,11 @@ A convenience: it does no screening. `--help` prints MANUAL.md, the whole manual
 
 import os
 import pathlib
-import stat
 import sys
 
 from textform.decode import decode
 from textform.encode import all_bytes
+from textform.files import Failure, check_replaceable, read_file, read_source, set_aside, write_file, write_new
 from textform.grounds import GROUNDS, explained
 from textform.looks_wrong import warnings
 from textform.remarks import grounds, notes
@@ -23,62 +23,7 @@ from textform.text import read_text
 from textform.words import Mistake, shown
 
 MANUAL = pathlib.Path(__file__).resolve().parent / "MANUAL.md"
-LONGEST_FILE = 1_000_000  # bytes; the longest text and the longest job are far below
 USAGE = __doc__[__doc__.index("    book.py") : __doc__.index("\n\nA convenience")]
-
-
-class Failure(Exception):
-    """A line to end with, and the exit status."""
-
-    def __init__(self, message, status=1):
-        super().__init__(message)
-        self.status = status
-
-
-# ---- Files --------------------------------------------------------------------------------------
-
-
-def read_file(path):
-    try:
-        with open(path, "rb") as file:
-            data = file.read(LONGEST_FILE + 1)
-    except OSError as error:
-        raise Failure(f"{path}: {error.strerror or error}")
-    if len(data) > LONGEST_FILE:
-        raise Failure(f"{path}: longer than {LONGEST_FILE:,} bytes, so neither a text nor a job")
-    return data
-
-
-def read_source(path):
-    """A text; the mark that some editors put at the start of one (a BOM) is skipped."""
-    data = read_file(path)
-    try:
-        return data.decode("utf-8-sig")
-    except UnicodeDecodeError as error:
-        line = data[: error.start].count(b"\n") + 1
-        raise Failure(f"{path}, line {line}: the byte {data[error.start]:#04x} is not text in UTF-8; save the file as UTF-8")
-
-
-def write_file(path, data):
-    """All of the bytes, or the old file as it was: they are written beside it, and then take its name."""
-    if os.path.exists(path) and not os.path.isfile(path):
-        with open(path, "wb") as file:  # such as /dev/stdout: there is no old file
-            file.write(data)
-        return
-    path = os.path.realpath(path)
-    beside = f"{path}.{os.getpid()}.part"
-    try:
-        with open(beside, "xb") as file:
-            file.write(data)
-            file.flush()
-            os.fsync(file.fileno())
-        if os.path.exists(path):
-            os.chmod(beside, stat.S_IMODE(os.stat(path).st_mode))
-        os.replace(beside, path)
-    except BaseException:
-        if os.path.exists(beside):
-            os.unlink(beside)
-        raise
 
 
 # ---- Commands -----------------------------------------------------------------------------------
@@ -115,16 +60,17 @@ def place(path, line):
     return f"{path}, line {line}" if line else str(path)
 
 
-def check_no_text(source, out):
-    """A text is never written over: neither this one, by whichever name, nor another."""
-    if os.path.exists(source) and os.path.exists(out) and os.path.samefile(source, out):
-        raise Failure(f"{out}: is the text itself; give the job another name")
-    if os.path.exists(out) and str(out).endswith(".txt"):
-        raise Failure(f"{out}: is there already, and by its name a text; give the job another name")
-
-
 def encode_file(source, out, book_alone=False):
-    check_no_text(source, out)
+    """The job or the book of a text. Where there is none, an old one does not stay in its place."""
+    check_replaceable(source, out)
+    try:
+        write_encoded(source, out, book_alone)
+    except Failure as failure:
+        aside = set_aside(out)
+        raise Failure(f"{failure}\n{aside}" if aside else str(failure), failure.status)
+
+
+def write_encoded(source, out, book_alone):
     try:
         job, book = read_text(read_source(source))
     except Mistake as mistake:
@@ -133,14 +79,18 @@ def encode_file(source, out, book_alone=False):
         job = None
     data = all_bytes(job, book)
     tell_remarks(source, job, book)
-    try:
-        write_file(out, data)
-    except OSError as error:
-        raise Failure(f"{out}: not written: {error.strerror or error}")
+    write(write_file, out, data)
     what = "a job with its book" if job else "a book alone"
     if not job and not book_alone:
         what += " (screen asks for a job: its lines are rate to adult)"
     tell(f"{out}: wrote {what}: members {len(book.members)}, feeds {len(book.feeds)}, bytes {len(data):,}")
+
+
+def write(how, out, data):
+    try:
+        how(out, data)
+    except OSError as error:
+        raise Failure(f"{out}: not written: {error.strerror or error}")
 
 
 def tell_remarks(source, job, book):
@@ -155,21 +105,35 @@ def tell_remarks(source, job, book):
         tell(f"{source}: {decider} decides, not this tool; expect 'refused {found[0].ground}'")
 
 
-def decode_file(words):
+def decode_options(words):
+    """The form, the text that has the names, the bytes, and the file for the text; each but the bytes may be None."""
     form = names = None
-    while len(words) > 1:
+    while words and words[0].startswith("--"):
         if words[0] in ("--job", "--book") and form is None:
             form, words = words[0][2:], words[1:]
         elif words[0] == "--names" and names is None and len(words) > 2:
             names, words = words[1], words[2:]
         else:
-            raise Failure(f"usage:\n{USAGE}", 2)
-    data = read_file(words[0])
+            break
+    if len(words) not in (1, 2) or words[0].startswith("--"):
+        raise Failure(f"usage:\n{USAGE}", 2)
+    return form, names, words[0], (words + [None])[1]
+
+
+def decode_file(words):
+    form, names, source, out = decode_options(words)
+    if out is not None and os.path.lexists(out):
+        raise Failure(f"{out}: is there already, so it was left as it was; give the text another name")
+    data = read_file(source)
     try:
         text = decode(data, form, None if names is None else read_source(names))
     except Mistake as mistake:
-        raise Failure(f"{place(names if mistake.in_names else words[0], mistake.line)}: {mistake}")
-    put(text)
+        raise Failure(f"{place(names if mistake.in_names else source, mistake.line)}: {mistake}")
+    if out is None:
+        put(text)
+        return
+    write(write_new, out, text.encode())
+    tell(f"{out}: wrote the text of {source}")
 
 
 def explain(words):

@@ -14,6 +14,7 @@ import sys
 from fractions import Fraction
 
 import test_command
+import test_files
 import test_messages
 import test_shares
 import test_target
@@ -407,7 +408,7 @@ def check_cases(jobs):
 
 
 def main():
-    others = (test_shares, test_messages, test_target, test_looks_wrong, test_command)
+    others = (test_shares, test_messages, test_target, test_looks_wrong, test_command, test_files)
     count = run_tests(globals()) + sum(run_tests(vars(file)) for file in others)
     check_cases([job for job, _ in recorded.read_cases(recorded.JOB)])
     say_passed(count + 1)

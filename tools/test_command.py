@@ -2,7 +2,6 @@
 
 import os
 import pathlib
-import resource
 import subprocess
 import sys
 import tempfile
@@ -66,7 +65,7 @@ def test_readme(folder):
     table = RADON.with_suffix(".table").read_text().splitlines()
     shown += ["\n".join(table[:4]), "\n".join(line for rate in ("60 ", "18 ") for line in table if line.startswith(rate))]
     (folder / "cellar.txt").write_text(RADON.read_text().replace("rate 0.18 per hour", "rate 0.18"))
-    shown.append(run("encode", "cellar.txt", "cellar.job", cwd=folder)[2])
+    shown.append(run("encode", "cellar.txt", "cellar.job", cwd=folder)[2].splitlines()[0])
     shown += workroom(folder)
     shown.append(guide(folder))
     shown += [path.read_text() for path in RADON.parent.glob("*.out") if path.stem != "workroom"]
@@ -92,7 +91,7 @@ def workroom(folder):
         shown.append(verdict_and_level(job))
     status, _, said = encoded("7.8")
     assert status == 1
-    return shown + [said]
+    return shown + [said.splitlines()[0]]
 
 
 def guide(folder):
@@ -119,44 +118,6 @@ def test_book_alone(folder):
     alone = folder / "alone.txt"
     alone.write_text(text[text.index("divisor") :])
     assert "wrote a book alone" in run("encode", alone, folder / "alone.book")[2]
-
-
-@folder_test
-def test_same_file(folder):
-    """The text is never written over, by whichever name."""
-    text, link = folder / "same.txt", folder / "link.job"
-    text.write_text(RADON.read_text())
-    link.symlink_to(text)
-    for out in (text, link, folder / "." / "same.txt"):
-        status, _, said = run("encode", text, out)
-        assert status == 1 and "is the text itself" in said
-    assert text.read_text() == RADON.read_text()
-    status, _, said = run("encode", RADON, text)
-    assert status == 1 and "by its name a text" in said and text.read_text() == RADON.read_text()
-
-
-@folder_test
-def test_failed_write(folder):
-    """A write that fails leaves the old file as it was, and nothing beside it."""
-    job = folder / "old.job"
-    job.write_bytes(b"old")
-    limit = lambda: resource.setrlimit(resource.RLIMIT_FSIZE, (16, 16))
-    status, _, said = run("encode", RADON, job, preexec_fn=limit)
-    assert status == 1 and f"{job}: " in said and "not written" in said
-    assert job.read_bytes() == b"old" and [path.name for path in folder.iterdir()] == ["old.job"]
-    assert run("encode", RADON, folder / "none" / "x.job")[0] == 1
-    assert run("encode", RADON, folder)[0] == 1
-
-
-@folder_test
-def test_old_file_keeps_its_mode(folder):
-    job, link = folder / "old.job", folder / "link.job"
-    job.write_bytes(b"old")
-    job.chmod(0o640)
-    link.symlink_to(job)
-    assert run("encode", RADON, link)[0] == 0
-    assert link.is_symlink() and job.stat().st_mode & 0o777 == 0o640
-    assert job.read_bytes() == RADON.with_suffix(".job").read_bytes()
 
 
 def test_to_standard_output():

@@ -81,6 +81,8 @@ def same_chain_names(source, members):
     """The names, where the text has as many members, with the same half-lives."""
     named = Text(source).members
     numbers_of_names(named)
+    if not named:
+        raise Mistake("has no member line; '>' into this file would have emptied it before it was read: give OUT instead")
     if len(named) != len(members):
         raise Mistake(f"is of another chain: it has {len(named)} members, the bytes {len(members)}")
     for i, (ours, theirs) in enumerate(zip(named, members)):

@@ -1,0 +1,128 @@
+"""The files of the text tool: what is read, what may be replaced, and what is set aside."""
+
+import os
+import stat
+
+from .decode import decode
+from .words import Mistake
+
+LONGEST_FILE = 1_000_000  # bytes; the longest text and the longest job are far below
+ASIDE = ".old"
+
+
+class Failure(Exception):
+    """A line to end with, and the exit status."""
+
+    def __init__(self, message, status=1):
+        super().__init__(message)
+        self.status = status
+
+
+# ---- Reading ------------------------------------------------------------------------------------
+
+
+def read_file(path):
+    try:
+        with open(path, "rb") as file:
+            data = file.read(LONGEST_FILE + 1)
+    except OSError as error:
+        raise Failure(f"{path}: {error.strerror or error}")
+    if len(data) > LONGEST_FILE:
+        raise Failure(f"{path}: longer than {LONGEST_FILE:,} bytes, so neither a text nor a job")
+    return data
+
+
+def read_source(path):
+    """A text; the mark that some editors put at the start of one (a BOM) is skipped."""
+    data = read_file(path)
+    try:
+        return data.decode("utf-8-sig")
+    except UnicodeDecodeError as error:
+        line = data[: error.start].count(b"\n") + 1
+        raise Failure(f"{path}, line {line}: the byte {data[error.start]:#04x} is not text in UTF-8; save the file as UTF-8")
+
+
+# ---- What is there already ----------------------------------------------------------------------
+
+
+def is_ours(data):
+    """Whether decode can read the bytes as a job or as a book. An empty file has nothing to lose."""
+    for form in ("job", "book"):
+        try:
+            decode(data, form)
+            return True
+        except Mistake:
+            pass
+    return not data
+
+
+def why_kept(path):
+    """Why a file that is there, by its name or through a link, must stay as it is; None where it may be replaced."""
+    if not os.path.isfile(path):
+        return None
+    if not os.stat(path).st_mode & 0o222 or not os.access(path, os.W_OK):
+        return "is read-only"
+    try:
+        data = read_file(path)
+    except Failure:
+        return "cannot be read as a job or a book"
+    return None if is_ours(data) else "is there already, and neither a job nor a book"
+
+
+def check_replaceable(source, out):
+    """The text is never written over, by whichever name, and nothing else but a job or a book."""
+    if os.path.exists(source) and os.path.exists(out) and os.path.samefile(source, out):
+        raise Failure(f"{out}: is the text itself; give the job another name")
+    why = why_kept(out)
+    if why:
+        raise Failure(f"{out}: {why}, so it was left as it was; give the job another name")
+
+
+def set_aside(out):
+    """The line that says what became of an old job or book after a failure: it must not be taken for the new one."""
+    if not os.path.isfile(out):
+        return None
+    old = f"{out}{ASIDE}"
+    why = why_kept(old)
+    try:
+        if not why:
+            os.replace(out, old)  # of a link only the link
+    except OSError as error:
+        why = f"cannot be written: {error.strerror or error}"
+    if why:
+        return f"{out}: is the old one, not of this text, and could not be set aside: {old} {why}"
+    return f"{out}: was there, not of this text, so it is set aside as {old}"
+
+
+# ---- Writing ------------------------------------------------------------------------------------
+
+
+def write_file(path, data):
+    """All of the bytes, or the old file as it was: they are written beside it, and then take its name."""
+    if os.path.exists(path) and not os.path.isfile(path):
+        with open(path, "wb") as file:  # such as /dev/stdout: there is no old file
+            file.write(data)
+        return
+    path = os.path.realpath(path)
+    beside = f"{path}.{os.getpid()}.part"
+    try:
+        write_new(beside, data)
+        if os.path.exists(path):
+            os.chmod(beside, stat.S_IMODE(os.stat(path).st_mode))
+        os.replace(beside, path)
+    except BaseException:
+        if os.path.exists(beside):
+            os.unlink(beside)
+        raise
+
+
+def write_new(path, data):
+    """A file that is not there yet; where it is, an error."""
+    with open(path, "xb") as file:
+        try:
+            file.write(data)
+            file.flush()
+            os.fsync(file.fileno())
+        except BaseException:
+            os.unlink(path)
+            raise
