@@ -226,7 +226,7 @@ def check_programs():
 
 def main():
     texts = sorted(HERE.glob("*.txt"))
-    assert len(texts) == 5
+    assert len(texts) == 6
     for text in texts:
         check(text)
     for gas in GASES:

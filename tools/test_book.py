@@ -32,6 +32,7 @@ sys.path.insert(0, str(HERE.parent / "docs" / "src"))
 import recorded  # noqa: E402
 import reference  # noqa: E402  (the check from outside, for what screen refuses)
 import test_looks_wrong  # noqa: E402
+import test_readings  # noqa: E402
 from tally import run_tests, say_passed  # noqa: E402
 
 # ---- Bytes and round trips ----------------------------------------------------------------------
@@ -408,7 +409,7 @@ def check_cases(jobs):
 
 
 def main():
-    others = (test_shares, test_messages, test_target, test_looks_wrong, test_command, test_files)
+    others = (test_shares, test_messages, test_target, test_looks_wrong, test_readings, test_command, test_files)
     count = run_tests(globals()) + sum(run_tests(vars(file)) for file in others)
     check_cases([job for job, _ in recorded.read_cases(recorded.JOB)])
     say_passed(count + 1)

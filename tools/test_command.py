@@ -68,7 +68,7 @@ def test_readme(folder):
     shown.append(run("encode", "cellar.txt", "cellar.job", cwd=folder)[2].splitlines()[0])
     shown += workroom(folder)
     shown.append(guide(folder))
-    shown += [path.read_text() for path in RADON.parent.glob("*.out") if path.stem != "workroom"]
+    shown += [path.read_text() for path in RADON.parent.glob("*.out") if path.stem not in ("workroom", "groundwater")]
     for text in shown:
         assert "".join(f"    {line}\n" for line in text.splitlines()) in readme, text
 

@@ -5,6 +5,7 @@ from textform.decode import decode
 from textform.encode import encode
 
 
+NAMES = [path.stem for path in EXAMPLES.glob("*.txt")]
 NEXT = "look at the feed lines from {0}; shares that nothing in the chain follows are 'ends {1} from {0}'"
 
 
@@ -51,7 +52,7 @@ def test_parts_add_up():
     """Any parts will do that make the whole, and the bytes do not hold the lines."""
     for parts in ("ends 20 from Po-218\n", "ends 7 from Po-218\nends 13 from 1\n"):
         assert encode(changed("ends 20 from Po-218\n", parts)) == encode(RADON)
-    for name in ("radon", "thoron", "actinon", "guide", "workroom"):
+    for name in NAMES:
         assert encode(example(name)) == (EXAMPLES / f"{name}.job").read_bytes(), name
 
 
@@ -76,7 +77,7 @@ def ends_of(text):
 
 def test_decoded():
     """A book's text says what ends, by name where there are names, and is a text again."""
-    for name in ("radon", "thoron", "actinon", "guide", "workroom"):
+    for name in NAMES:
         job = (EXAMPLES / f"{name}.job").read_bytes()
         named = decode(job, None, example(name))
         assert ends_of(named) == ends_of(example(name)) != []
@@ -85,7 +86,7 @@ def test_decoded():
 
 def test_notes():
     """Ends that end the chain need no note; others get one at their line."""
-    for name in ("radon", "thoron", "actinon", "guide", "workroom"):
+    for name in NAMES:
         assert noted(example(name)) == [], name
     assert noted(RADON) == ["line 18: ends 20 from Po-218: nothing follows them, and the chain goes on from Po-218"]
     forgotten = accounted(changed("feed 100_000 from Pb-214 into Bi-214\n", "", example("radon")))

@@ -1,11 +1,13 @@
-"""docs/FORMAT.md against the packer and the reference: its dump, its report, its offsets and its entries of a table.
+"""docs/FORMAT.md against the packer and the reference: its dump, report and offsets, its concentrations, its entries of a table.
 
     test_format.py
 """
 
+import math
 import pathlib
 import re
 import struct
+from fractions import Fraction
 
 import reference as ref
 from packing import bits, pack_book, pack_feed, pack_job, pack_member
@@ -58,6 +60,29 @@ def test_offsets():
         assert [offset for offset, _ in rows] == [sum(size for _, size in rows[:i]) for i in range(len(rows))]
         assert sum(size for _, size in rows) == struct.calcsize(form) == len(data)
         assert [size for _, size in rows] == field_sizes(form)
+
+
+def concentration(medium, reading, unit, attenuation):
+    """What the reference reports of a reading without uncertainty."""
+    job = pack_job(medium=medium, unit=unit, AF=attenuation, value=bits(reading)) + pack_book([pack_member(1)], [])
+    (found,) = re.findall("^concentration (.*)$", ref.answer(job), re.MULTILINE)
+    return int(found)
+
+
+def number(written):
+    return Fraction(written.replace(",", ""))
+
+
+def test_concentrations():
+    """Each line of a reading: the reference has its concentration, and its product is as it says, rounded up."""
+    media, units = ("indoor air", "soil gas", "groundwater"), ("pCi/L", "pCi/m³", "Bq/m³")
+    rows = re.findall(rf"^\| ({'|'.join(media)}) \| (\S+) (\S+) \| (\S+) \| (.*) \| (\S+) \|$", PAGE, re.MULTILINE)
+    assert [row[0] for row in rows] == [*media, "groundwater"]
+    for medium, reading, unit, attenuation, product, found in rows:
+        assert math.ceil(math.prod(number(part) for part in product.split(" × "))) == number(found)
+        fields = media.index(medium), float(number(reading)), units.index(unit), int(number(attenuation))
+        assert concentration(*fields) == number(found)
+    assert "× 4.34 ×" in rows[2][4]
 
 
 def test_entries():

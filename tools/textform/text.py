@@ -10,6 +10,7 @@ from .words import Mistake, exact, fitting, one_of, reading, shown, whole
 
 MEDIA = ("indoor-air", "soil-gas", "groundwater")
 UNITS = ("pCi/L", "pCi/m3", "Bq/m3")
+PER_LITRE = "Bq/L"  # a text's alone: 1,000 Bq/m3, which is the unit in the bytes
 GROUP = ("days per year", "years", "hours per day", "m3 breathed per day")
 JOB_WORDS = ("rate", "kind", "medium", "unit", "target", "attenuation", "value", "uncertainty", "child", "adult")
 LINE_WORDS = JOB_WORDS + ("exposure", "divisor", "member", "feed", "ends", "surplus")
@@ -110,7 +111,7 @@ def job_of(text):
     """The job, or None where the text is a book alone."""
     if not text.has_job():
         return None
-    kind, (unit, unit_name) = listed(text, "kind", KINDS), unit_of(text)
+    kind, (unit, *said) = listed(text, "kind", KINDS), unit_of(text)
     attenuation, line = text.one("attenuation", "whole millionths")
     child, adult = groups_of(text)
     return Job(
@@ -120,8 +121,8 @@ def job_of(text):
         unit,
         target_of(text.fields["target"][0], kind, text.fields["target"][1]),
         whole(attenuation, 4, "attenuation", "whole millionths", line, 10**6),
-        reading_of(text, "value", unit_name),
-        reading_of(text, "uncertainty", unit_name),
+        reading_of(text, "value", *said),
+        reading_of(text, "uncertainty", *said),
         child,
         adult,
         {word: line for word, (_, line) in text.fields.items()},
@@ -134,15 +135,18 @@ def listed(text, word, names):
 
 
 def unit_of(text):
-    """The unit in the bytes, and the one that the text says."""
+    """The unit in the bytes; the one that the text says, and how many of the first it is."""
     rest, line = text.fields["unit"]
-    unit = one_of([word.replace("\u00b3", "3") for word in rest], UNITS, "unit", line)
-    return unit, UNITS[unit] if unit < len(UNITS) else "the unit"
+    words = [word.replace("\u00b3", "3") for word in rest]
+    unit = one_of(words, (*UNITS, PER_LITRE), "unit", line)
+    if words == [PER_LITRE]:
+        return UNITS.index("Bq/m3"), PER_LITRE, 1_000
+    return unit, UNITS[unit] if unit < len(UNITS) else "the unit", 1
 
 
-def reading_of(text, word, unit_name):
+def reading_of(text, word, unit_name, times):
     value, line = text.one(word, f"a decimal number of {unit_name} (its unit is the line 'unit')")
-    return reading(value, word, unit_name, line)
+    return reading(value, word, unit_name, line, times)
 
 
 def rate_of(words, line):

@@ -93,14 +93,15 @@ def bits_not_below(number):
     return struct.unpack("<Q", struct.pack("<d", near))[0]
 
 
-def reading(word, what, unit, line):
-    """The bits of the smallest f64 not below a decimal; or 0x and the 16 hexadecimal digits of the bits."""
-    if BITS.match(word):
+def reading(word, what, unit, line, times=1):
+    """The bits of the smallest f64 not below a decimal, times a whole number; or 0x and the 16 hexadecimal digits of the bits."""
+    if BITS.match(word) and times == 1:
         return int(word, 16)
     number = exact(word[1:] if word[0] in "+-" else word, what, line)
     if number is None:
-        form = f"a decimal number of {unit} (or 0x and 16 hexadecimal digits)"
+        form = f"a decimal number of {unit}" + (" (or 0x and 16 hexadecimal digits)" if times == 1 else ", and no bits")
         raise Mistake(f"{what} {shown(word)}: {form}{hint(word, None, None)}", line)
+    number *= times
     bits = bits_not_below(number)
     if bits == 0x7FF << 52:
         raise Mistake(f"{what} {shown(word)}: too large: no f64 holds it, and screen takes far less", line)
