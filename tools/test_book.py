@@ -18,13 +18,14 @@ import test_files
 import test_messages
 import test_shares
 import test_target
-from samples import ALONE, RADON, accounted, changed, foreseen, mistake_of, noted, warned
+from samples import ALONE, RADON, accounted, changed, foreseen, mistake_of, noted, pages, warned
 from textform import grounds, remarks
+from textform.chain import COEFFICIENTS
 from textform.decode import decode, group_lines
 from textform.encode import encode
-from textform.half_life import half_life
+from textform.half_life import NANOSECONDS, half_life
 from textform.hours import hours_text, quarters_of
-from textform.text import Group, Text, groups_of, read_text
+from textform.text import EXPOSURES, KINDS, LINE_WORDS, MEDIA, PER_LITRE, UNITS, Group, Text, groups_of, read_text
 from textform.words import Mistake, number_of, reading, reading_text
 
 HERE = pathlib.Path(__file__).resolve().parent
@@ -384,10 +385,12 @@ def test_grounds_foreseen():
 
 
 def test_documents():
-    """The README shows the table of the grounds, the manual says every word, and its example can be encoded."""
-    assert grounds.table() in (HERE.parent / "README.md").read_text(encoding="utf-8")
+    """The pages show the table of the grounds, the manual says every word, and its example can be encoded."""
+    assert grounds.table() in pages()
     assert list(grounds.GROUNDS) == list(range(1, 23))
     manual = (HERE / "MANUAL.md").read_text(encoding="ascii")
+    for word in (*LINE_WORDS, *COEFFICIENTS, *KINDS, *MEDIA, *UNITS, PER_LITRE, *EXPOSURES, *NANOSECONDS):
+        assert re.search(rf"(?<!\w){word}(?!\w)", manual), word
     example = manual[manual.index("    # A home") : manual.index("One line for each")]
     assert foreseen(example) == warned(example) == noted(example) == []
 

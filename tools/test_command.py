@@ -6,6 +6,8 @@ import subprocess
 import sys
 import tempfile
 
+from samples import pages
+
 HERE = pathlib.Path(__file__).resolve().parent
 BOOK = HERE / "book.py"
 RADON = HERE.parent / "examples" / "radon.txt"
@@ -56,9 +58,9 @@ def test_book_alone(folder):
 
 
 @folder_test
-def test_readme(folder):
-    """The README shows what encode says and what screen and table write."""
-    readme = (HERE.parent / "README.md").read_text(encoding="utf-8")
+def test_pages(folder):
+    """The README or a page of docs/ shows what encode says and what screen and table write."""
+    shown_there = pages()
     (folder / "cellar.txt").write_bytes(RADON.read_bytes())
     shown = [run("encode", "cellar.txt", "cellar.job", cwd=folder)[2]]
     shown.append(run("encode", "--book", "cellar.txt", "cellar.book", cwd=folder)[2].splitlines()[-1])
@@ -70,7 +72,7 @@ def test_readme(folder):
     shown.append(guide(folder))
     shown += [path.read_text() for path in RADON.parent.glob("*.out") if path.stem not in ("workroom", "groundwater")]
     for text in shown:
-        assert "".join(f"    {line}\n" for line in text.splitlines()) in readme, text
+        assert "".join(f"    {line}\n" for line in text.splitlines()) in shown_there, text
 
 
 def workroom(folder):

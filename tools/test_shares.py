@@ -6,7 +6,7 @@ from textform.encode import encode
 
 
 NAMES = [path.stem for path in EXAMPLES.glob("*.txt")]
-NEXT = "look at the feed lines from {0}; shares that nothing in the chain follows are 'ends {1} from {0}'"
+NEXT = "look at its feed lines; shares that nothing in the chain follows are 'ends {} from {}'"
 
 
 def test_missing_and_surplus():
@@ -31,7 +31,7 @@ def test_what_to_write():
         (changed("ends 20", "ends 19"), "Po-218", "20"),
         (changed("ends 100_000 from 2\n", ""), "2", "100_000"),
     ):
-        assert mistake_of(encode, text).endswith(f"are missing: {NEXT.format(name, share)}")
+        assert mistake_of(encode, text).endswith(f"are missing: {NEXT.format(share, name)}")
 
 
 def test_lines():

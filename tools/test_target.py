@@ -1,6 +1,6 @@
 """A target with its unit: exactly what it says, and only for its kind."""
 
-from samples import RADON, changed, mistake_of
+from samples import EXAMPLES, RADON, changed, mistake_of
 from textform.decode import decode
 from textform.encode import encode
 from textform.target import target_of, target_text
@@ -41,7 +41,8 @@ def test_refused():
         ("0.1", 1, ": whole thousandths of mrem per year, so 100, or with its unit such as '100 mrem'"),
         ("4.5", 2, ": whole billionths of risk or whole thousandths of mrem per year"),
         *((said, 0, forms) for said in ("1 in 0", "1 in x", "one in 250", "1 in", "in 250", "1 of 250", "1 in 250 000")),
-        *((said, 1, forms) for said in ("x mrem", "10 mSv", "10 mrem per month", "-1 mrem", "1,5 mrem")),
+        *((said, 1, forms) for said in ("x mrem", "10 mSv", "10 mrem per month", "-1 mrem")),
+        *((said, kind, f"{forms}, without commas") for said, kind in (("4 in 1,000", 0), ("1,000 mrem", 1))),
     ):
         assert mistake_of(target_of, said.split(), kind, 9).startswith(f"line 9: target {said}{part}"), said
 
@@ -54,3 +55,10 @@ def test_comes_back():
     assert [target_text(4_000_000, kind) for kind in (0, 1, 2)] == ["4 in 1_000", "4_000 mrem", "4000000"]
     assert [target_text(6_195, kind) for kind in (0, 1)] == ["6_195 in 1_000_000_000", "6.195 mrem"]
     assert "target 161 in 100_000_000\n" in decode(encode(RADON))
+
+
+def test_examples():
+    """Every example's target carries its unit."""
+    for path in EXAMPLES.glob("*.txt"):
+        (line,) = [line.split("#")[0] for line in path.read_text(encoding="utf-8").splitlines() if line.startswith("target")]
+        assert " in " in line or " mrem" in line, path.stem

@@ -10,6 +10,7 @@ from typing import NamedTuple
 
 from .chain import COEFFICIENTS
 from .feeds import SHARES
+from .half_life import half_life_text
 from .hours import MOST_QUARTERS
 from .shares import shares_out
 from .text import GROUP, KINDS, MEDIA, UNITS, Group
@@ -120,7 +121,8 @@ def bad_counts(book):
 def bad_member(i, member, book):
     most = LONGEST_LATER if i else LONGEST_PARENT
     if not 1 <= member.half_life <= most:
-        yield Remark(13, member.line, f"{book.label(i)}, half-life {member.half_life} ns: 1 to {most:,} ns")
+        said = f"{book.label(i)}, half-life {half_life_text(member.half_life)}: 1ns to {half_life_text(most)}"
+        yield Remark(13, member.line, said)
     for word, number in zip(COEFFICIENTS, member.numbers()):
         if number > MOST:
             yield Remark(13, member.line, f"{book.label(i)}, {word} {number}: at most {MOST:,}")

@@ -63,9 +63,8 @@ def wrong_with(book, i):
     missing = f"{counted}, {SHARES - total:,} are missing"
     if surplus:
         return f"{missing}: its feeds carry no such surplus"
-    name = book.members[i].name or i
-    ends_line = f"ends {SHARES - out:_} from {name}"
-    return f"{missing}: look at the feed lines from {name}; shares that nothing in the chain follows are '{ends_line}'"
+    ends_line = f"ends {SHARES - out:_} from {book.members[i].name or i}"
+    return f"{missing}: look at its feed lines; shares that nothing in the chain follows are '{ends_line}'"
 
 
 def said(book, word, i):

@@ -22,7 +22,8 @@ def target_of(words, kind, line):
         return plain(words[0], kind, line)
     meant, amount = amount_of(words, line)
     if amount is None:
-        raise Mistake(f"{said}: a plain number, or with its unit such as {' or '.join(FORMS)}", line)
+        commas = hint(" ".join(words), None, None)
+        raise Mistake(f"{said}: a plain number, or with its unit such as {' or '.join(FORMS)}{commas}", line)
     if meant != kind:
         raise Mistake(f"{said}: is a target for {KINDS[meant]}, but {other_kind(kind)}", line)
     scaled = amount * SCALES[kind]
