@@ -382,6 +382,7 @@ def test_grounds_foreseen():
         found = foreseen(text)
         assert (found[0] if found else (None, 0)) == (ground, line), (found, ground, line)
         assert refused(encode(text)) == ground, ground
+        assert encode(decode(encode(text), "job")) == encode(text)  # so that encode knows its own files again
 
 
 def test_documents():
