@@ -13,13 +13,13 @@ def test_missing_and_surplus():
     """A forgotten feed, a mistyped share, and shares said twice, each with the member's line and by how many."""
     radon = example("radon")
     for text, member, found in (
-        (changed("feed 100_000 from Pb-214 into Bi-214\n", "", radon), "line 18: Pb-214", "0 of 100,000, 100,000 are missing"),
-        (changed("feed 100_000 from Rn-222", "feed 100 from Rn-222"), "line 13: Rn-222", "100 of 100,000, 99,900 are missing"),
-        (changed("ends 100_000 from Tl-210\n", "", radon), "line 23: Tl-210", "0 of 100,000, 100,000 are missing"),
-        (changed("ends 20", "ends 19"), "line 14: Po-218", "99,999 of 100,000, 1 are missing"),
+        (changed("feed 100_000 from Pb-214 into Bi-214\n", "", radon), "line 18: Pb-214", "0 of 100,000, 100,000 missing"),
+        (changed("feed 100_000 from Rn-222", "feed 100 from Rn-222"), "line 13: Rn-222", "100 of 100,000, 99,900 missing"),
+        (changed("ends 100_000 from Tl-210\n", "", radon), "line 23: Tl-210", "0 of 100,000, 100,000 missing"),
+        (changed("ends 20", "ends 19"), "line 14: Po-218", "99,999 of 100,000, 1 missing"),
         (changed("ends 20", "ends 21"), "line 14: Po-218", "100,001 of 100,000, which is 1 too many"),
         (changed("feed 99_980", "feed 100_000"), "line 14: Po-218", "100,020 of 100,000, which is 20 too many"),
-        (changed("ends 100_000 from 2\n", ""), "line 15: member 2", "0 of 100,000, 100,000 are missing"),
+        (changed("ends 100_000 from 2\n", ""), "line 15: member 2", "0 of 100,000, 100,000 missing"),
         (RADON + "ends 1 from Rn-222\n", "line 13: Rn-222", "100,001 of 100,000, which is 1 too many"),
     ):
         assert mistake_of(encode, text).startswith(f"{member}: its shares out add up to {found}"), mistake_of(encode, text)
@@ -31,7 +31,7 @@ def test_what_to_write():
         (changed("ends 20", "ends 19"), "Po-218", "20"),
         (changed("ends 100_000 from 2\n", ""), "2", "100_000"),
     ):
-        assert mistake_of(encode, text).endswith(f"are missing: {NEXT.format(share, name)}")
+        assert mistake_of(encode, text).endswith(f" missing: {NEXT.format(share, name)}")
 
 
 def test_lines():
@@ -64,7 +64,7 @@ def test_surplus():
     assert mistake_of(encode, over).endswith("add up to 100,021 of 100,000, which is 21 too many")
     back = decode(encode(text))
     assert "surplus 1 from 1\nends 100000 from 2\n" in back and encode(back) == encode(text)
-    for line, part in (("surplus 1 from Rn-222", "99,999 of 100,000, 1 are missing: its feeds carry no such surplus"),
+    for line, part in (("surplus 1 from Rn-222", "99,999 of 100,000, 1 missing: its feeds carry no such surplus"),
                        ("surplus 1 from Po-218", "its shares cannot both end and be too many")):
         assert part in mistake_of(encode, RADON + line)
 

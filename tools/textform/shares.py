@@ -60,7 +60,7 @@ def wrong_with(book, i):
         return f"{counted}, which is {total - SHARES:,} too many"
     if total == SHARES:
         return None
-    missing = f"{counted}, {SHARES - total:,} are missing"
+    missing = f"{counted}, {SHARES - total:,} missing"
     if surplus:
         return f"{missing}: its feeds carry no such surplus"
     ends_line = f"ends {SHARES - out:_} from {book.members[i].name or i}"
