@@ -25,7 +25,7 @@ from textform.decode import decode, group_lines
 from textform.encode import encode
 from textform.half_life import NANOSECONDS, half_life
 from textform.hours import hours_text, quarters_of
-from textform.text import EXPOSURES, KINDS, LINE_WORDS, MEDIA, PER_LITRE, UNITS, Group, Text, groups_of, read_text
+from textform.text import EXPOSURES, KINDS, LARGER_UNITS, LINE_WORDS, MEDIA, UNITS, Group, Text, groups_of, read_text
 from textform.words import Mistake, number_of, reading, reading_text
 
 HERE = pathlib.Path(__file__).resolve().parent
@@ -390,7 +390,7 @@ def test_documents():
     assert grounds.table() in pages()
     assert list(grounds.GROUNDS) == list(range(1, 23))
     manual = (HERE / "MANUAL.md").read_text(encoding="ascii")
-    for word in (*LINE_WORDS, *COEFFICIENTS, *KINDS, *MEDIA, *UNITS, PER_LITRE, *EXPOSURES, *NANOSECONDS):
+    for word in (*LINE_WORDS, *COEFFICIENTS, *KINDS, *MEDIA, *UNITS, *LARGER_UNITS, *EXPOSURES, *NANOSECONDS):
         assert re.search(rf"(?<!\w){word}(?!\w)", manual), word
     example = manual[manual.index("    # A home") : manual.index("One line for each")]
     assert foreseen(example) == warned(example) == noted(example) == []

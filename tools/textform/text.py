@@ -10,7 +10,7 @@ from .words import Mistake, exact, fitting, one_of, reading, shown, whole
 
 MEDIA = ("indoor-air", "soil-gas", "groundwater")
 UNITS = ("pCi/L", "pCi/m3", "Bq/m3")
-PER_LITRE = "Bq/L"  # a text's alone: 1,000 Bq/m3, which is the unit in the bytes
+LARGER_UNITS = {"Bq/L": 1_000}  # of a text alone, each so many Bq/m3, which is the unit in the bytes
 GROUP = ("days per year", "years", "hours per day", "m3 breathed per day")
 JOB_WORDS = ("rate", "kind", "medium", "unit", "target", "attenuation", "value", "uncertainty", "child", "adult")
 LINE_WORDS = JOB_WORDS + ("exposure", "divisor", "member", "feed", "ends", "surplus")
@@ -138,9 +138,9 @@ def unit_of(text):
     """The unit in the bytes; the one that the text says, and how many of the first it is."""
     rest, line = text.fields["unit"]
     words = [word.replace("\u00b3", "3") for word in rest]
-    unit = one_of(words, (*UNITS, PER_LITRE), "unit", line)
-    if words == [PER_LITRE]:
-        return UNITS.index("Bq/m3"), PER_LITRE, 1_000
+    unit = one_of(words, (*UNITS, *LARGER_UNITS), "unit", line)
+    if words[0] in LARGER_UNITS:
+        return UNITS.index("Bq/m3"), words[0], LARGER_UNITS[words[0]]
     return unit, UNITS[unit] if unit < len(UNITS) else "the unit", 1
 
 
