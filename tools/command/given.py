@@ -1,0 +1,89 @@
+"""What the command is given: a text or the bytes of a job or a book, told apart by what is in them, not by the name."""
+
+from typing import NamedTuple
+
+from textform.decode import decode, is_book
+from textform.encode import all_bytes
+from textform.text import read_text
+from textform.words import Mistake
+
+from .remarks import remarks_on
+from .tool import Failure, read_file
+
+JOB = 48  # bytes, before the book
+UTF_16 = (b"\xff\xfe", b"\xfe\xff")
+
+
+class Given(NamedTuple):
+    """A job as it goes to the programs, and the same bytes read back, which is what is shown of it."""
+
+    data: bytes
+    read: tuple  # the job and the book in the bytes; None where they can't be read
+    remarks: list
+
+
+def bytes_in(name):
+    """All of a file; the line that says why not leaves out its name, which whoever shows it puts before it."""
+    try:
+        return read_file(name)
+    except Failure as failure:
+        raise Failure(str(failure).removeprefix(f"{name}: "))
+
+
+def placed(name, why):
+    """A line with the file's name before it: `cellar.txt, line 3: ...`."""
+    return f"{name}, {why}" if why.startswith("line ") else f"{name}: {why}"
+
+
+def is_bytes(data):
+    """Every job and every book has a zero byte, and no text has one."""
+    return 0 in data
+
+
+def text_of(data):
+    """A text; the mark that some editors put at the start of one (a BOM) is skipped."""
+    try:
+        return data.decode("utf-8-sig")
+    except UnicodeDecodeError as error:
+        said = f"the byte {data[error.start]:#04x} is not text in UTF-8; save the file as UTF-8"
+        raise Mistake(said, data[: error.start].count(b"\n") + 1)
+
+
+def check_not_utf_16(data):
+    if data[:2] in UTF_16 and not is_book(data[JOB:]):
+        raise Failure("is text in UTF-16; save the file as UTF-8")
+
+
+def job_given(name):
+    """The job in a file: a text's, or the bytes as they are, whatever the programs will say of them."""
+    data = bytes_in(name)
+    if not is_bytes(data):
+        return text_given(text_of(data))
+    check_not_utf_16(data)
+    if is_book(data) and not is_book(data[JOB:]):
+        raise Failure("is a book alone: a room needs the lines of a job too, rate to adult")
+    try:
+        read = read_text(decode(data, "job"))
+    except Mistake:
+        return Given(data, None, [])
+    return Given(data, read, remarks_on(*read, has_lines=False))
+
+
+def text_given(source):
+    job, book = read_text(source)
+    if job is None:
+        raise Mistake("is a book alone: a room needs the lines of a job too, rate to adult")
+    data = all_bytes(job, book)
+    return Given(data, read_text(decode(data, "job", source)), remarks_on(job, book))
+
+
+def book_given(name):
+    """The book in a file: a text's, a book's bytes, or those that follow a job."""
+    data = bytes_in(name)
+    if not is_bytes(data):
+        return all_bytes(None, read_text(text_of(data))[1])
+    check_not_utf_16(data)
+    is_job = is_book(data[JOB:])
+    if is_book(data) and is_job:
+        raise Failure("fits a book alone and a job with its book; give its text")
+    return data[JOB:] if is_job else data

@@ -1,0 +1,64 @@
+"""The level as the meter would show it: the highest reading, without uncertainty, whose concentration indoors is no higher.
+
+`screen` rounds a reading up on its way into the room's air, so this goes back the same way and rounds down. What comes
+out is screened itself before it is shown.
+"""
+
+from fractions import Fraction
+from math import floor
+import struct
+
+from textform.remarks import MOST, PER_UNIT
+from textform.words import bits_not_below, number_of
+
+from .numerals import decimal
+from .programs import screened
+from .tool import Failure
+
+DIGITS = 4  # of what is shown
+VALUE_AT = 16  # of a job's bytes; its uncertainty follows
+
+
+def shares_indoors(job):
+    """What a concentration in the medium is multiplied by to get that of the room's air."""
+    return (Fraction(1), Fraction(job.attenuation, 10**6), Fraction(434 * job.attenuation, 10**8))[job.medium]
+
+
+def most_in_medium(level, job):
+    """The highest whole mBq/m³ in the medium that is no more than the level indoors, and that a job can hold."""
+    share = shares_indoors(job)
+    return min(MOST, floor(level / share)) if share else MOST
+
+
+def highest_reading(level, job):
+    """(n, places): n of 10^-places of the meter's unit, the highest of so many digits."""
+    most, scale = most_in_medium(level, job), PER_UNIT[job.unit]
+    if most == 0:
+        return 0, 0
+    places = places_for(Fraction(most, scale))
+    number = floor(Fraction(most, scale) * 10**places)
+    held = number_of(bits_not_below(Fraction(number, 10**places)))  # a job holds the next f64 above
+    return (number if held * scale <= most else number - 1), places
+
+
+def places_for(number):
+    """How many decimal places show a number with so many digits."""
+    places = 0
+    while number * 10**places < 10 ** (DIGITS - 1):
+        places += 1
+    return places
+
+
+def with_reading(number, places, data):
+    """The job with this reading, and no uncertainty."""
+    bits = bits_not_below(Fraction(number, 10**places))
+    return data[:VALUE_AT] + struct.pack("<QQ", bits, 0) + data[VALUE_AT + 16 :]
+
+
+def level_on_meter(level, job, data):
+    """The reading in digits. `screen` has the last word on it."""
+    number, places = highest_reading(level, job)
+    at = screened(with_reading(number, places, data))
+    if at.verdict != "below" or at.concentration > level:
+        raise Failure("the level in the meter's unit: screen does not agree with it, so nothing is shown")
+    return decimal(number, places)

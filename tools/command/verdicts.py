@@ -1,0 +1,39 @@
+"""The verdicts and what else can come of a room: in words, counted, and as an exit status."""
+
+from textform.grounds import GROUNDS
+
+from .numerals import count
+from .tool import CLEARED, FAILED, NOT_CLEARED
+
+OUTCOMES = ("below", "close", "above", "refused", "unanswered")  # from best to worst
+QUANTITIES = ("risk", "dose")  # in the order of a job's kinds
+MEANINGS = {
+    "below": "cleared at this rate, for this chain: the exact {} is at most the target",
+    "close": "not cleared: the exact {} and the target differ by no more than the rounding can make; measure again or air more",
+    "above": "not cleared: the exact {} is more than the target",
+}
+
+
+def meaning(verdict, kind):
+    return f"{verdict}, so {MEANINGS[verdict].format(QUANTITIES[kind])}"
+
+
+def ground_in_words(ground):
+    """A refusal's number, what is wrong, and where to look."""
+    if ground not in GROUNDS:
+        return f"ground {ground}, which this tool does not know"
+    wrong, look = GROUNDS[ground]
+    return f"ground {ground}: {wrong} Where to look: {look}."
+
+
+def status(outcomes):
+    if any(outcome in ("refused", "unanswered") for outcome in outcomes):
+        return FAILED
+    return CLEARED if all(outcome == "below" for outcome in outcomes) else NOT_CLEARED
+
+
+def tally(outcomes):
+    """`3 rooms: 1 below, 1 close, 1 refused`."""
+    outcomes = list(outcomes)
+    told = [f"{outcomes.count(kind):,} {kind}" for kind in OUTCOMES if kind in outcomes]
+    return f"{count(len(outcomes), 'room')}: {', '.join(told) or 'none'}"

@@ -1,0 +1,216 @@
+"""`./jelmorand screen`: what it shows of a room, what it says of one that it cannot answer, and the exit status."""
+
+import stat
+
+import recorded
+import reference
+from command.layout import WIDTH
+from command.meter import highest_reading, with_reading
+from command.numerals import in_a_power
+from house import EXAMPLES, example, house_test
+from textform.decode import decode
+from textform.text import read_text
+from textform.words import Mistake
+
+WORKROOM = "examples/workroom.txt"
+CLEARED = ("rate 0.18 per hour", "rate 90          ")  # of the workroom
+NO_ANSWERS = {  # scripts in a program's place
+    "says nothing": "",
+    "fails": "import sys\nprint('verdict below')\nsys.exit(1)",
+    "stops halfway": "print('factor 0 1099511627776')\nprint('concentration 1')\nprint('verdict below')",
+    "says more": "print('verdict below')\nprint('rate 0')\nprint('and more')",
+    "is killed": "import os\nprint('rate 0', flush=True)\nos.kill(os.getpid(), 9)",
+}
+
+
+def fields(job):
+    """The reference's report and lowest rate, by their words."""
+    lines = reference.answer(job) + reference.fan_answer(job)
+    return dict(line.split() for line in lines.splitlines() if not line.startswith("factor"))
+
+
+def labelled(out):
+    """What stands after each label of an answer, its lines joined."""
+    found, label = {}, None
+    for line in out.splitlines():
+        label = line[:15].strip() or label
+        found.setdefault(label, []).append(line[15:].strip())
+    return {label: " ".join(lines) for label, lines in found.items()}
+
+
+def millionths(word):
+    return word if word == "none" else f"{int(word) // 10**6}.{int(word) % 10**6:06}"
+
+
+def per_hour(word):
+    return "no rate is enough" if word == "none" else f"{int(word) // 100}.{int(word) % 100:02} per hour (rate {word})"
+
+
+@house_test
+def test_figures(home):
+    """Every figure that is shown of an example is the reference's, and the bytes have the answer of the text."""
+    for path in sorted(EXAMPLES.glob("*.job")):
+        expected = fields(path.read_bytes())
+        status, out, said = home.run("screen", f"examples/{path.stem}.txt")
+        shown = labelled(out)
+        assert said == "" and status == (0 if expected["verdict"] == "below" else 1), path
+        assert shown["verdict"].startswith(f"{expected['verdict']}, so ")
+        assert shown["concentration"].startswith(f"{int(expected['concentration']):,} mBq/m³ ")
+        assert shown["level"].startswith(f"{int(expected['level']):,} mBq/m³ ")
+        assert shown["equilibrium"].split()[-1] == millionths(expected["equilibrium"])
+        assert shown["working level"] == millionths(expected["working"])
+        assert shown["lowest rate"] == per_hour(expected["rate"])
+        of_bytes = home.run("screen", f"examples/{path.name}")
+        assert of_bytes[0] == status and of_bytes[1].partition("\nverdict")[2] == out.partition("\nverdict")[2], path
+
+
+@house_test
+def test_what_was_read(home):
+    """The words and units of the workroom, of the other media, of a home, of one group, and of a name left out."""
+    let = ("exposure worker ", "child 0 0 0 0\nadult 1 1 7:45 60 ")
+    home.write("let.txt", example("workroom", let))
+    for name, parts in (
+        (WORKROOM, ("0.18 air changes per hour", "risk, target 4 in 1,000", "indoor air, 4.0 + 0.4 pCi/L",
+                    "worker, 250 days a year for 25 years, 8 hours a day",
+                    "Rn-222 and seven daughters, ending with Po-214 and Tl-210")),
+        ("examples/guide.txt", ("dose, target 6.195 mrem a year", "residential, child, 350 days a year for 6 years, 24 hours a day",
+                                "residential, adult, 350 days a year for 20 years", "Rn-222 alone, no daughters")),
+        ("examples/actinon.txt", ("groundwater, 100 + 5 pCi/L, multiplied by 4.34 and by the attenuation 0.001",)),
+        ("examples/thoron.txt", ("soil gas, 250.0 + 12.5 Bq/m³, multiplied by the attenuation 0.03",)),
+        ("examples/radon.job", ("member 0 and seven daughters, ending with member 6 and member 7",)),
+        ("let.txt", ("adult, 1 day a year for 1 year, 7:45 hours a day, 60 m³ of air a day",)),
+    ):
+        read = labelled(home.run("screen", name)[1])["read"]
+        assert all(part in read for part in parts), (parts, read)
+
+
+def test_targets():
+    for billionths, said in ((4_000_000, "4 in 1,000"), (1_610, "1.61 in 1,000,000"), (0, "0"), (10**9, "1 in 1"), (1, "1 in 1,000,000,000")):
+        assert in_a_power(billionths, 9) == said
+
+
+@house_test
+def test_several_rooms(home):
+    """Each under its name, then how many of each; the status is that of the worst."""
+    home.write("aired.txt", example("workroom", CLEARED))
+    home.write("wrong.txt", example("workroom", ("rate 0.18 per hour", "rate 0.18")))
+    status, out, said = home.run("screen", "aired.txt", WORKROOM)
+    assert (status, said) == (1, "") and out.endswith("\n2 rooms: 1 below, 1 above\n")
+    assert out.startswith("aired.txt\nread ") and f"\n{WORKROOM}\nread " in out
+    status, out, said = home.run("screen", "aired.txt", "wrong.txt", "none.txt")
+    assert (status, said) == (2, "") and out.endswith("\n3 rooms: 1 below, 1 refused, 1 unanswered\n")
+    assert "\nwrong.txt\nrefused        line 3: rate 0.18: whole hundredths per hour" in out
+    assert "\nnone.txt\nunanswered     No such file or directory\n" in out
+    assert home.run("screen", "aired.txt", "aired.txt")[0] == 0
+    assert max(map(len, out.splitlines())) <= WIDTH
+
+
+@house_test
+def test_no_file_is_left(home):
+    """A refused text is never judged on last month's job, and nothing is written."""
+    home.write("cellar.txt", example("workroom", ("rate 0.18 per hour", "rate 0.18")))
+    home.write("cellar.job", (EXAMPLES / "actinon.job").read_bytes())
+    before = home.files()
+    status, out, said = home.run("screen", "cellar.txt")
+    assert (status, out) == (2, "") and said.startswith("cellar.txt, line 3: rate 0.18: whole hundredths per hour")
+    home.run("screen", WORKROOM, "cellar.txt", "examples/radon.job")
+    assert home.files() == before
+
+
+@house_test
+def test_report_alone(home):
+    """The program's own lines; of several files each under its name, and what is not answered on standard error."""
+    for name in ("radon", "actinon"):
+        said = (EXAMPLES / f"{name}.out").read_text()
+        for form in ("txt", "job"):
+            assert home.run("screen", "--report", f"examples/{name}.{form}") == (1 if "above" in said else 0, said, "")
+    both = home.run("screen", "--report", "examples/radon.txt", "none.txt")
+    assert both == (2, "examples/radon.txt\n" + (EXAMPLES / "radon.out").read_text(), "none.txt: No such file or directory\n")
+    home.write("fast.txt", example("radon", ("rate 0.18 per hour", "rate 100_001")))
+    assert home.run("screen", "--report", "fast.txt") == (2, "refused 3\n", "")
+
+
+@house_test
+def test_refused_in_words(home):
+    """A refusal has its number, its sentence and the line that foresaw it, and what was read is shown all the same."""
+    home.write("fast.txt", example("radon", ("rate 0.18 per hour", "rate 100_001")))
+    status, out, _ = home.run("screen", "fast.txt")
+    shown = labelled(out)
+    assert status == 2 and shown["refused"].startswith("ground 3: The rate is more than 100,000 hundredths") and "Where to look: rate." in shown["refused"]
+    assert "line 3: rate 100001: at most 100,000" in shown["warning"] and shown["read"].startswith("1,000.01 air changes")
+    home.write("cut.job", (EXAMPLES / "radon.job").read_bytes()[:100])
+    status, out, _ = home.run("screen", "cut.job")
+    assert status == 2 and labelled(out)["refused"].startswith("ground 11: ") and "verdict" not in out
+
+
+@house_test
+def test_no_text_and_no_job(home):
+    """One line, and status 2."""
+    for name, data, part in (
+        ("latin.txt", b"rate 18\nunit Bq/m\xb3\n", ", line 2: the byte 0xb3 is not text in UTF-8"),
+        ("wide.txt", "rate 18".encode("utf-16"), ": is text in UTF-16; save the file as UTF-8"),
+        ("empty.txt", b"", ": "),
+        ("radon.book", (EXAMPLES / "radon.book").read_bytes(), ": is a book alone"),
+        ("book.txt", example("radon")[example("radon").index("divisor") :], ": is a book alone"),
+        ("long.txt", b"#" * 1_000_001, ": longer than 1,000,000 bytes"),
+    ):
+        status, out, said = home.run("screen", home.write(name, data))
+        assert (status, out) == (2, "") and said.startswith(name + part) and said.count("\n") == 1, (name, said)
+    assert home.run("screen", "none.txt") == (2, "", "none.txt: No such file or directory\n")
+    assert home.run("screen", "examples") == (2, "", "examples: Is a directory\n")
+
+
+@house_test
+def test_level_at_its_largest(home):
+    """A room whose coefficients are all 0 is 'below' at every reading, so the answer warns."""
+    assert "largest" not in home.run("screen", WORKROOM)[1]
+    home.write("zero.txt", example("guide", ("inhalation-dose 1_000", "inhalation-dose 0")))
+    status, out, _ = home.run("screen", "zero.txt")
+    assert status == 0 and "the level is at its largest" in labelled(out)["warning"]
+
+
+@house_test
+def test_no_answer_is_taken_for_one(home):
+    """Whatever is wrong with a program, there is no verdict, and its line says so."""
+    for name in ("screen", "fan"):
+        for why, script in NO_ANSWERS.items():
+            home.put_program(name, f"#!/usr/bin/env python3\n{script}\n")
+            status, out, said = home.run("screen", WORKROOM)
+            assert (status, out) == (2, "") and f"{WORKROOM}: {name}: no answer" in said, (name, why, out, said)
+        home.put_program(name)
+    home.program("screen").chmod(stat.S_IRUSR)
+    status, out, said = home.run("screen", "--report", WORKROOM)
+    assert (status, out) == (2, "") and "no answer" in said
+
+
+def accepted_jobs():
+    """The recorded jobs that are accepted and have a text."""
+    for data, said in recorded.read_cases(recorded.JOB):
+        if not said.startswith("refused"):
+            try:
+                yield data, read_text(decode(data, "job"))[0]
+            except Mistake:
+                continue
+
+
+def concentration(data):
+    return int(fields_of_report(data).get("concentration", reference.MOST + 1))
+
+
+def fields_of_report(data):
+    return dict(line.split() for line in reference.answer(data).splitlines() if not line.startswith("factor"))
+
+
+def test_level_on_the_meter():
+    """Of every recorded job, in each unit and medium: the reading that is shown is 'below' and no higher than the level,
+    and one step more is not, or is no reading that a job can hold."""
+    seen = set()
+    for data, job in accepted_jobs():
+        level = int(fields_of_report(data)["level"])
+        number, places = highest_reading(level, job)
+        shown = fields_of_report(with_reading(number, places, data))
+        assert shown["verdict"] == "below" and int(shown["concentration"]) <= level, (job, number, places)
+        if job.attenuation:
+            assert concentration(with_reading(number + 1, places, data)) > level or level == reference.MOST, (job, number, places)
+        seen.add((job.medium, job.unit))
+    assert len(seen) == 9, seen
