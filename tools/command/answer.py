@@ -24,7 +24,7 @@ def answer_rows(given, report, rate):
 
 def read_rows(given):
     rows = [("read", line) for line in read_lines(*given.read)] if given.read else []
-    return rows + [(remark.kind, remark.said) for remark in given.remarks]
+    return rows + [(remark.kind, remark.placed()) for remark in given.remarks]
 
 
 def level_rows(given, report):

@@ -7,7 +7,7 @@ from textform.encode import all_bytes
 from textform.text import read_text
 from textform.words import Mistake
 
-from .remarks import remarks_on
+from .remarks import remarks_on, without_lines
 from .tool import Failure, read_file
 
 JOB = 48  # bytes, before the book
@@ -66,7 +66,7 @@ def job_given(name):
         read = read_text(decode(data, "job"))
     except Mistake:
         return Given(data, None, [])
-    return Given(data, read, remarks_on(*read, has_lines=False))
+    return Given(data, read, without_lines(remarks_on(*read)))
 
 
 def text_given(source):

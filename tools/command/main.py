@@ -2,11 +2,13 @@
 
 import sys
 
+from .rooms import rooms
 from .screen import screen
 from .tool import CLEARED, FAILED, Failure, put, tell
 
 COMMANDS = {  # each with what follows it, and what it is for
     "screen": (screen, "[--report] FILE..", "the verdict on rooms, each a text or a job"),
+    "rooms": (rooms, "[--force] BOOK.txt ROOMS.csv RESULTS.csv", "many rooms of one book, a line each (docs/ROOMS.md)"),
 }
 
 

@@ -7,16 +7,20 @@ from textform import remarks
 
 class Line(NamedTuple):
     kind: str  # warning or note
+    line: int  # of the text, or 0
     said: str
-    ground: int  # of the refusal that it foresees, or 0
+
+    def placed(self):
+        return f"line {self.line}: {self.said}" if self.line else self.said
 
 
-def remarks_on(job, book, has_lines=True):
-    """Warnings before notes. The lines of a text that was made of bytes tell nobody anything."""
+def remarks_on(job, book):
+    """Warnings before notes."""
     found = [("warning", remark) for remark in remarks.grounds(job, book)]
     found += [("note", remark) for remark in remarks.notes(job, book)]
-    return [Line(kind, placed(remark, has_lines), remark.ground) for kind, remark in found]
+    return [Line(kind, remark.line, remark.said) for kind, remark in found]
 
 
-def placed(remark, has_lines):
-    return f"line {remark.line}: {remark.said}" if has_lines and remark.line else remark.said
+def without_lines(found):
+    """Of a text that was made from bytes, whose lines nobody has seen."""
+    return [remark._replace(line=0) for remark in found]

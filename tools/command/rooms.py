@@ -1,0 +1,74 @@
+"""`rooms`: many rooms of one book, a table in and a table out (docs/ROOMS.md)."""
+
+from textform.chain import book_of
+from textform.text import KINDS, Text
+from textform.words import Mistake
+
+from .building import make_ready
+from .columns import WORDS, columns_of, is_replaced
+from .given import bytes_in, is_bytes, placed, text_of
+from .judging import judged_all
+from .numerals import listed
+from .results import check_new, write_results
+from .room import Lines
+from .sheet import read_sheet
+from .summary import summary
+from .tool import Failure, put
+from .verdicts import status
+
+
+def rooms(words):
+    is_forced = words[:1] == ["--force"]
+    names = words[1:] if is_forced else words
+    if len(names) != 3 or any(name.startswith("--") for name in names):
+        raise Failure("usage: ./jelmorand rooms [--force] BOOK.txt ROOMS.csv RESULTS.csv")
+    book_name, rooms_name, results_name = names
+    book, sheet = read_book(book_name), read_sheet(rooms_name)
+    at = columns_of(sheet, rooms_name, book.words, book_name)
+    if not sheet.rows:
+        raise Failure(f"{rooms_name}: has no rooms, only the names of the columns")
+    check_new(results_name, (book_name, rooms_name), is_forced)
+    make_ready(["screen", "fan"])
+    found = judged_all(sheet, at, book)
+    write_results(results_name, sheet, found, is_forced)
+    put("".join(shared_lines(book, at, found)) + summary(found, results_name))
+    return status([judged.kind for judged in found])
+
+
+def read_book(name):
+    """The text of the book, with the lines of a job that it has."""
+    try:
+        data = bytes_in(name)
+        if is_bytes(data):
+            raise Failure("is no text; `./jelmorand decode` makes one of a job or a book")
+        source = text_of(data)
+        text = Text(source)
+        check_chain(text)
+    except (Mistake, Failure) as error:
+        line = getattr(error, "line", 0)
+        raise Failure(placed(name, f"line {line}: {error}" if line else str(error)))
+    return Lines(name, source, {word: line for word, (_, line) in text.fields.items() if word in WORDS})
+
+
+def check_chain(text):
+    """A chain that fits no kind of job fits no room."""
+    mistakes = []
+    for kind in range(len(KINDS)):
+        try:
+            book_of(text, kind)
+        except Mistake as mistake:
+            mistakes.append(mistake)
+    if len(mistakes) == len(KINDS):
+        raise mistakes[0]
+
+
+def shared_lines(book, at, found):
+    """What all rooms have in common: the lines of the book's text that count, those that do not, and what is said of it."""
+    not_counted = [word for word in book.words if is_replaced(word, at)]
+    common = [word for word in book.words if word not in not_counted]
+    if not_counted:
+        yield f"{book.name}: the columns count, and not its {listed([f'line {book.words[word]}, {word}' for word in not_counted])}\n"
+    if common:
+        yield f"{book.name}: the same in every room: {'; '.join(map(book.said, common))}\n"
+    for remark in dict.fromkeys(remark for judged in found for remark in judged.shared):
+        yield f"{placed(book.name, f'{remark.placed()} ({remark.kind})')}\n"
