@@ -71,14 +71,13 @@ class House:
         (self.folder / name).write_bytes(text if isinstance(text, bytes) else text.encode())
         return name
 
-    def run(self, *words, path=None):
+    def run(self, *words, path=None, stdout=subprocess.PIPE):
         """Status, standard output and standard error of ./jelmorand in the copy."""
         env = dict(os.environ, PYTHONDONTWRITEBYTECODE="1", PYTHONIOENCODING="utf-8")
         env.update({"PATH": str(path)} if path else {})
-        done = subprocess.run(
-            [sys.executable, "./jelmorand", *map(str, words)], cwd=self.folder, env=env, capture_output=True, timeout=300, check=False
-        )
-        out, said = done.stdout.decode(), done.stderr.decode()
+        words = [sys.executable, "./jelmorand", *map(str, words)]
+        done = subprocess.run(words, cwd=self.folder, env=env, stdout=stdout, stderr=subprocess.PIPE, timeout=300, check=False)
+        out, said = (done.stdout or b"").decode(), done.stderr.decode()
         assert "Traceback" not in said, said
         return done.returncode, out, said
 

@@ -127,7 +127,8 @@ def test_report_alone(home):
     both = home.run("screen", "--report", "examples/radon.txt", "none.txt")
     assert both == (2, "examples/radon.txt\n" + (EXAMPLES / "radon.out").read_text(), "none.txt: No such file or directory\n")
     home.write("fast.txt", example("radon", ("rate 0.18 per hour", "rate 100_001")))
-    assert home.run("screen", "--report", "fast.txt") == (2, "refused 3\n", "")
+    assert home.run("screen", "--report", "fast.txt") [:2] == (2, "refused 3\n")
+    assert home.run("screen", "--report", "fast.txt")[2].startswith("fast.txt: ground 3: The rate is more than")
 
 
 @house_test
@@ -137,7 +138,7 @@ def test_refused_in_words(home):
     status, out, _ = home.run("screen", "fast.txt")
     shown = labelled(out)
     assert status == 2 and shown["refused"].startswith("ground 3: The rate is more than 100,000 hundredths") and "Where to look: rate." in shown["refused"]
-    assert "line 3: rate 100001: at most 100,000" in shown["warning"] and shown["read"].startswith("1,000.01 air changes")
+    assert "line 3: rate 100001: at most 100,000" in shown["to be refused"] and shown["read"].startswith("1,000.01 air changes")
     home.write("cut.job", (EXAMPLES / "radon.job").read_bytes()[:100])
     status, out, _ = home.run("screen", "cut.job")
     assert status == 2 and labelled(out)["refused"].startswith("ground 11: ") and "verdict" not in out
@@ -203,14 +204,19 @@ def fields_of_report(data):
 
 def test_level_on_the_meter():
     """Of every recorded job, in each unit and medium: the reading that is shown is 'below' and no higher than the level,
-    and one step more is not, or is no reading that a job can hold."""
+    and one step more is not, or is no reading that a job can hold. So too in a unit a thousand times the bytes'."""
     seen = set()
     for data, job in accepted_jobs():
-        level = int(fields_of_report(data)["level"])
-        number, places = highest_reading(level, job)
-        shown = fields_of_report(with_reading(number, places, data))
-        assert shown["verdict"] == "below" and int(shown["concentration"]) <= level, (job, number, places)
-        if job.attenuation:
-            assert concentration(with_reading(number + 1, places, data)) > level or level == reference.MOST, (job, number, places)
+        for size in (1, 1_000):
+            check_reading(data, job, size)
         seen.add((job.medium, job.unit))
     assert len(seen) == 9, seen
+
+
+def check_reading(data, job, size):
+    level = int(fields_of_report(data)["level"])
+    number, places = highest_reading(level, job, size)
+    shown = fields_of_report(with_reading(number, places, data, size))
+    assert shown["verdict"] == "below" and int(shown["concentration"]) <= level, (job, number, places)
+    more = concentration(with_reading(number + 1, places, data, size))
+    assert more > level or level == reference.MOST or job.attenuation == 0, (job, number, places)

@@ -4,7 +4,7 @@ from textform.remarks import MOST
 
 from .meter import level_on_meter
 from .numerals import decimal
-from .read_back import INDOOR_AIR, medium_of, read_lines, unit_of
+from .read_back import INDOOR_AIR, medium_of, meter_unit, read_lines
 from .verdicts import ground_in_words, meaning
 
 
@@ -29,9 +29,10 @@ def read_rows(given):
 
 def level_rows(given, report):
     job = given.read[0]
-    reading = level_on_meter(report.level, job, given.data)
+    unit, size = meter_unit(job, given.unit)
+    reading = level_on_meter(report.level, job, given.data, size)
     yield "level", f"{report.level:,} mBq/m³ indoors, the highest concentration that is 'below'"
-    yield "level", f"{reading} {unit_of(job)} on the meter{in_medium(job)}, without uncertainty, rounded down"
+    yield "level", f"{reading} {unit} on the meter{in_medium(job)}, without uncertainty, rounded down"
     if report.level == MOST:
         yield "warning", (
             "the level is at its largest: this room cannot be 'close' or 'above', whatever the meter says; "

@@ -4,7 +4,7 @@ from typing import NamedTuple
 
 from textform.decode import decode, is_book
 from textform.encode import all_bytes
-from textform.text import read_text
+from textform.text import Text, read_text
 from textform.words import Mistake
 
 from .remarks import remarks_on, without_lines
@@ -20,6 +20,7 @@ class Given(NamedTuple):
     data: bytes
     read: tuple  # the job and the book in the bytes; None where they can't be read
     remarks: list
+    unit: str = ""  # as the text says it; the bytes have fewer units
 
 
 def bytes_in(name):
@@ -74,7 +75,8 @@ def text_given(source):
     if job is None:
         raise Mistake("is a book alone: a room needs the lines of a job too, rate to adult")
     data = all_bytes(job, book)
-    return Given(data, read_text(decode(data, "job", source)), remarks_on(job, book))
+    unit = " ".join(Text(source).fields["unit"][0])
+    return Given(data, read_text(decode(data, "job", source)), remarks_on(job, book), unit)
 
 
 def book_given(name):

@@ -2,31 +2,53 @@
 
 import sys
 
+import book
+
+from .passing import FACTORS, TABLE, fan, of_book, to_tool
 from .rooms import rooms
 from .screen import screen
-from .tool import CLEARED, FAILED, Failure, put, tell
+from .tool import CLEARED, FAILED, Failure, Usage, put, tell
+
+
+def tool_form(command):
+    """What follows a command of the text tool, as its own usage has it."""
+    words = next(line.split() for line in book.USAGE.splitlines() if line.split()[1] == command)
+    return " ".join(words[2:])
+
 
 COMMANDS = {  # each with what follows it, and what it is for
-    "screen": (screen, "[--report] FILE..", "the verdict on rooms, each a text or a job"),
-    "rooms": (rooms, "[--force] BOOK.txt ROOMS.csv RESULTS.csv", "many rooms of one book, a line each (docs/ROOMS.md)"),
+    "screen": (screen, "[--report] FILE..", "the verdict on texts or jobs"),
+    "rooms": (rooms, "[--force] BOOK.txt ROOMS.csv RESULTS.csv", "many rooms of one book"),
+    "fan": (fan, "FILE..", "the lowest rate that is 'below'"),
+    "table": (of_book("table", TABLE, 0), "FILE [RATE..]", "the shares in the air at each rate"),
+    "opening": (of_book("opening", FACTORS, 1), "FILE RATE MINUTES.. [every N]", "the shares after periods of airing"),
+    "encode": (to_tool("encode"), tool_form("encode"), "a text into a job or a book"),
+    "decode": (to_tool("decode"), tool_form("decode"), "a job or a book into a text"),
+    "explain": (to_tool("explain"), tool_form("explain"), "what 'refused NUMBER' means"),
+    "--help": (None, "", "these lines; more: docs/COMMAND.md"),
 }
 
 
+def form(name):
+    return f"./jelmorand {name} {COMMANDS[name][1]}".rstrip()
+
+
 def usage():
-    lines = [(f"./jelmorand {name} {follows}".rstrip(), what) for name, (_, follows, what) in COMMANDS.items()]
-    lines.append(("./jelmorand --help", "this page"))
-    width = max(len(form) for form, _ in lines)
-    return "".join(f"{form:<{width}}  {what}\n" for form, what in lines)
+    width = max(len(form(name)) for name in COMMANDS)
+    return "".join(f"{form(name):<{width}}  {what}\n" for name, (_, _, what) in COMMANDS.items())
 
 
 def run(words):
     if words in (["--help"], ["-h"], ["help"]):
         put(usage())
         return CLEARED
-    if not words or words[0] not in COMMANDS:
+    if not words or words[0] not in COMMANDS or words[0] == "--help":
         said = f"{words[0]}: no such command; " if words else ""
-        raise Failure(f"{said}./jelmorand --help lists the commands: {', '.join(COMMANDS)}")
-    return COMMANDS[words[0]][0](words[1:])
+        raise Failure(f"{said}the commands are {', '.join(COMMANDS)}")
+    try:
+        return COMMANDS[words[0]][0](words[1:])
+    except Usage:
+        raise Failure(f"usage: {form(words[0])}")
 
 
 def main(words):

@@ -30,15 +30,16 @@ def most_in_medium(level, job):
     return min(MOST, floor(level / share)) if share else MOST
 
 
-def highest_reading(level, job):
-    """(n, places): n of 10^-places of the meter's unit, the highest of so many digits."""
-    most, scale = most_in_medium(level, job), PER_UNIT[job.unit]
+def highest_reading(level, job, size=1):
+    """(n, places): n of 10^-places of the meter's unit, the highest of so many digits. The size is that of the meter's unit
+    in the bytes' own."""
+    most, scale = most_in_medium(level, job), PER_UNIT[job.unit] * size
     if most == 0:
         return 0, 0
     places = places_for(Fraction(most, scale))
     number = floor(Fraction(most, scale) * 10**places)
-    held = number_of(bits_not_below(Fraction(number, 10**places)))  # a job holds the next f64 above
-    return (number if held * scale <= most else number - 1), places
+    held = number_of(bits_not_below(Fraction(number * size, 10**places)))  # a job holds the next f64 above
+    return (number if held * PER_UNIT[job.unit] <= most else number - 1), places
 
 
 def places_for(number):
@@ -49,16 +50,16 @@ def places_for(number):
     return places
 
 
-def with_reading(number, places, data):
+def with_reading(number, places, data, size=1):
     """The job with this reading, and no uncertainty."""
-    bits = bits_not_below(Fraction(number, 10**places))
+    bits = bits_not_below(Fraction(number * size, 10**places))
     return data[:VALUE_AT] + struct.pack("<QQ", bits, 0) + data[VALUE_AT + 16 :]
 
 
-def level_on_meter(level, job, data):
+def level_on_meter(level, job, data, size):
     """The reading in digits. `screen` has the last word on it."""
-    number, places = highest_reading(level, job)
-    at = screened(with_reading(number, places, data))
+    number, places = highest_reading(level, job, size)
+    at = screened(with_reading(number, places, data, size))
     if at.verdict != "below" or at.concentration > level:
         raise Failure("the level in the meter's unit: screen does not agree with it, so nothing is shown")
     return decimal(number, places)

@@ -44,9 +44,9 @@ def asked(name, data, *words):
         done = subprocess.run([path_of(name), *words], input=data, capture_output=True, timeout=LONGEST, check=False)
     except (OSError, subprocess.TimeoutExpired) as error:
         raise Failure(f"{name}: no answer: {error}")
-    said = done.stderr.decode(errors="replace").strip()
+    said = done.stderr.decode(errors="replace").strip().removeprefix(f"{name}: ")
     if done.returncode != 0 or not done.stdout:
-        raise Failure(f"{name}: no answer (status {done.returncode}){': ' if said else ''}{said}")
+        raise Failure(f"{name}: {said or f'no answer (status {done.returncode})'}")
     return done.stdout.decode("ascii", errors="replace")
 
 

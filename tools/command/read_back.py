@@ -7,6 +7,7 @@ from textform.words import reading_text
 from .numerals import count, decimal, in_a_power, in_words, listed, trimmed
 
 SHOWN_UNITS = {"pCi/m3": "pCi/m³", "Bq/m3": "Bq/m³"}
+LARGER_UNITS = {"Bq/L": 1_000}  # of a text alone, in the unit that its bytes have
 RISK = KINDS.index("risk")
 INDOOR_AIR, GROUNDWATER = MEDIA.index("indoor-air"), MEDIA.index("groundwater")
 
@@ -24,6 +25,11 @@ def name_of(names, number):
 def unit_of(job):
     unit = name_of(UNITS, job.unit)
     return SHOWN_UNITS.get(unit, unit)
+
+
+def meter_unit(job, said):
+    """The unit of the meter, which the text may say with another name than the bytes, and how many of theirs it is."""
+    return (said, LARGER_UNITS[said]) if said in LARGER_UNITS else (unit_of(job), 1)
 
 
 def medium_of(job):

@@ -2,11 +2,14 @@
 
 from typing import NamedTuple
 
-from textform import remarks
+import book as tool
+
+# Each list that the text tool shows, with its kind: the names by which the tool has them.
+LISTS = (("warning", "warnings"), ("to be refused", "grounds"), ("note", "notes"))
 
 
 class Line(NamedTuple):
-    kind: str  # warning or note
+    kind: str
     line: int  # of the text, or 0
     said: str
 
@@ -16,9 +19,8 @@ class Line(NamedTuple):
 
 def remarks_on(job, book):
     """Warnings before notes."""
-    found = [("warning", remark) for remark in remarks.grounds(job, book)]
-    found += [("note", remark) for remark in remarks.notes(job, book)]
-    return [Line(kind, remark.line, remark.said) for kind, remark in found]
+    lists = [(kind, getattr(tool, name)(job, book)) for kind, name in LISTS if hasattr(tool, name)]
+    return [Line(kind, remark.line, remark.said) for kind, found in lists for remark in found]
 
 
 def without_lines(found):

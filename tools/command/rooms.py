@@ -13,7 +13,7 @@ from .results import check_new, write_results
 from .room import Lines
 from .sheet import read_sheet
 from .summary import summary
-from .tool import Failure, put
+from .tool import Failure, Usage, put
 from .verdicts import status
 
 
@@ -21,7 +21,7 @@ def rooms(words):
     is_forced = words[:1] == ["--force"]
     names = words[1:] if is_forced else words
     if len(names) != 3 or any(name.startswith("--") for name in names):
-        raise Failure("usage: ./jelmorand rooms [--force] BOOK.txt ROOMS.csv RESULTS.csv")
+        raise Usage
     book_name, rooms_name, results_name = names
     book, sheet = read_book(book_name), read_sheet(rooms_name)
     at = columns_of(sheet, rooms_name, book.words, book_name)

@@ -7,4 +7,9 @@ from book import Failure, put, read_file, tell  # noqa: F401  (for the other mod
 ROOT = pathlib.Path(__file__).resolve().parents[2]
 TOOL = ROOT / "tools" / "book.py"
 
+
+class Usage(Exception):
+    """The words after a command are none that it takes."""
+
+
 CLEARED, NOT_CLEARED, FAILED = 0, 1, 2  # the exit statuses

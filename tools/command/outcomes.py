@@ -1,0 +1,44 @@
+"""What comes of one file that a program was to answer."""
+
+from typing import NamedTuple
+
+from textform.words import Mistake
+
+from .given import placed
+from .programs import Refused, matched
+from .tool import Failure, put, tell
+from .verdicts import ground_in_words
+
+
+class Outcome(NamedTuple):
+    kind: str  # one of verdicts.OUTCOMES, or 'answered'
+    text: str  # what is shown of an answer; empty where there is none
+    why: str = ""  # there is none, or a refusal in words
+
+
+def outcome_of(name, answer):
+    """What keeps a file from an answer is no reason for others to wait."""
+    try:
+        return answer(name)
+    except Mistake as mistake:
+        return Outcome("refused", "", f"line {mistake.line}: {mistake}" if mistake.line else str(mistake))
+    except Failure as failure:
+        return Outcome("unanswered", "", str(failure))
+
+
+def lines_outcome(program, form, text):
+    """The lines of a proved program as it writes them; of a refusal there are words besides."""
+    try:
+        matched(program, form, text)
+    except Refused as refused:
+        return Outcome("refused", text, ground_in_words(refused.ground))
+    return Outcome("answered", text)
+
+
+def show_lines(name, outcome, is_one_of_several):
+    """Lines to standard output, under the file's name where they could be another's, and reasons to standard error."""
+    if outcome.text:
+        put((f"{name}\n" if is_one_of_several else "") + outcome.text)
+    if outcome.why:
+        tell(placed(name, outcome.why))
+    return outcome.kind

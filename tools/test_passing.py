@@ -1,0 +1,89 @@
+"""The other commands: what a program or the text tool says comes out as it is, and the exit status says whether it did."""
+
+import os
+
+import reference
+from house import EXAMPLES, example, house_test
+
+RADON = "examples/radon"
+
+
+@house_test
+def test_fan(home):
+    """A text and its job have the lowest rate that the reference has; of several, each under its name."""
+    for path in sorted(EXAMPLES.glob("*.job")):
+        said = reference.fan_answer(path.read_bytes())
+        for form in ("txt", "job"):
+            assert home.run("fan", f"examples/{path.stem}.{form}") == (0, said, "")
+    home.write("wrong.txt", example("radon", ("rate 0.18 per hour", "rate 0.18")))
+    status, out, said = home.run("fan", "wrong.txt", "examples/workroom.txt", "none")
+    assert (status, out) == (2, "examples/workroom.txt\nrate 90\n")
+    assert said.startswith("wrong.txt, line 3: rate 0.18: ") and said.endswith("\nnone: No such file or directory\n")
+
+
+@house_test
+def test_table(home):
+    """The book of a text, of a job and of a book; a refusal comes out as the program writes it, with words beside it."""
+    book = (EXAMPLES / "radon.book").read_bytes()
+    for form in ("txt", "job", "book"):
+        assert home.run("table", f"{RADON}.{form}", 60, 18) == (0, reference.table_call([60, 18], book, 10**6), "")
+    status, out, said = home.run("table", f"{RADON}.txt", 100_001)
+    assert (status, out) == (2, "refused 3\n") and said.startswith(f"{RADON}.txt: ground 3: The rate is more than")
+    home.put_program("table", "#!/bin/sh\necho 'table: 0.18: a rate is whole' >&2\nexit 1\n")
+    assert home.run("table", f"{RADON}.txt", "0.18") == (2, "", f"{RADON}.txt: table: 0.18: a rate is whole\n")
+    home.put_program("table", "#!/bin/sh\necho 18 1.000E+00 9.9\n")
+    assert home.run("table", f"{RADON}.txt", 18)[:2] == (2, "")
+
+
+@house_test
+def test_opening(home):
+    """The factors after periods, and what was given besides reaches the program, the form with `every` included."""
+    book = (EXAMPLES / "radon.book").read_bytes()
+    for form in ("txt", "job", "book"):
+        periods = (0, 480, 400, 60)
+        assert home.run("opening", f"{RADON}.{form}", *periods) == (0, reference.opening_lines(list(periods), book), "")
+    assert home.run("opening", f"{RADON}.txt", 18, 1_441)[:2] == (2, "refused 22\n")
+    home.put_program("opening", "#!/bin/sh\n[ \"$*\" = '/dev/stdin 400 60 every 60' ] && echo 60 1.000E+00 7.703E-01\n")
+    assert home.run("opening", f"{RADON}.txt", 400, 60, "every", 60) == (0, "60 1.000E+00 7.703E-01\n", "")
+    assert home.run("opening", f"{RADON}.txt", 400, 60, "every", 61) == (2, "", f"{RADON}.txt: opening: no answer (status 1)\n")
+
+
+@house_test
+def test_text_tool(home):
+    """encode, decode and explain are the text tool's; where it ends in a mistake the status is 2."""
+    assert home.run("encode", f"{RADON}.txt", "out.job")[:2] == (0, "")
+    assert (home.folder / "out.job").read_bytes() == (EXAMPLES / "radon.job").read_bytes()
+    status, text, _ = home.run("decode", "--names", f"{RADON}.txt", "out.job")
+    assert status == 0 and home.run("encode", home.write("back.txt", text), "back.job")[0] == 0
+    assert (home.folder / "back.job").read_bytes() == (EXAMPLES / "radon.job").read_bytes()
+    assert home.run("explain", 3)[1].startswith("3. The rate is more than")
+    for words in (("encode", "none.txt", "x.job"), ("decode", "none.job"), ("explain", "99"), ("encode",)):
+        status, out, said = home.run(*words)
+        assert (status, out) == (2, "") and said, words
+
+
+@house_test
+def test_usage(home):
+    """One line a command, and one line for what is no command or lacks something."""
+    status, out, said = home.run("--help")
+    assert (status, said) == (0, "") and max(map(len, out.splitlines())) <= 100
+    commands = [line.split()[1] for line in out.splitlines()]
+    assert commands == ["screen", "rooms", "fan", "table", "opening", "encode", "decode", "explain", "--help"]
+    assert home.run("help") == home.run("-h") == (status, out, said)
+    for words in ((), ("scren", "x"), ("--helpp",), ("screen",), ("screen", "--reports", "x"), ("rooms", "a", "b"), ("fan",), ("table",),
+                  ("opening", "x"), ("rooms", "--forced", "a", "b", "c")):
+        status, out, said = home.run(*words)
+        assert (status, out, said.count("\n")) == (2, "", 1), words
+        if words and words[0] in commands:
+            assert said.startswith(f"usage: ./jelmorand {words[0]} ")
+    assert home.run("table", "none", 18) == (2, "", "none: No such file or directory\n")
+
+
+@house_test
+def test_closed_output(home):
+    """An answer that nobody could read is not well."""
+    reader, writer = os.pipe()
+    os.close(reader)
+    status, _, said = home.run("screen", "examples/guide.txt", stdout=writer)
+    os.close(writer)
+    assert status == 2 and said.startswith("standard output: ")
