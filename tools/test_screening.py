@@ -4,9 +4,11 @@ import stat
 
 import recorded
 import reference
+from command.given import Given
 from command.layout import WIDTH
 from command.meter import highest_reading, with_reading
 from command.numerals import in_a_power
+from command.read_back import meter_unit, read_lines
 from house import EXAMPLES, example, house_test
 from textform.decode import decode
 from textform.text import read_text
@@ -46,6 +48,12 @@ def per_hour(word):
     return "no rate is enough" if word == "none" else f"{int(word) // 100}.{int(word) % 100:02} per hour (rate {word})"
 
 
+def figures(shown):
+    """What bytes and text have in common: not the names, nor a unit that a text alone has."""
+    level = shown["level"].partition(" mBq/m³ ")[0]
+    return level, [shown[label] for label in ("verdict", "concentration", "lowest rate", "equilibrium", "working level")]
+
+
 @house_test
 def test_figures(home):
     """Every figure that is shown of an example is the reference's, and the bytes have the answer of the text."""
@@ -61,7 +69,7 @@ def test_figures(home):
         assert shown["working level"] == millionths(expected["working"])
         assert shown["lowest rate"] == per_hour(expected["rate"])
         of_bytes = home.run("screen", f"examples/{path.name}")
-        assert of_bytes[0] == status and of_bytes[1].partition("\nverdict")[2] == out.partition("\nverdict")[2], path
+        assert of_bytes[0] == status and figures(labelled(of_bytes[1])) == figures(shown), path
 
 
 @house_test
@@ -82,6 +90,15 @@ def test_what_was_read(home):
     ):
         read = labelled(home.run("screen", name)[1])["read"]
         assert all(part in read for part in parts), (parts, read)
+
+
+def test_unit_of_a_text_alone():
+    """A text in Bq/L is shown in it, and in the unit of its bytes."""
+    data = (EXAMPLES / "thoron.job").read_bytes()
+    read = read_text(decode(data, "job"))
+    given = Given(data, read, [], {"unit": "Bq/L", "value": "0.25", "uncertainty": "0.0125"})
+    assert "soil gas, 0.25 + 0.0125 Bq/L (250.0 + 12.5 Bq/m³), multiplied by" in read_lines(*read, given.said)[2]
+    assert meter_unit(read[0], given.said) == ("Bq/L", 1_000) and meter_unit(read[0], {"unit": "Bq/m3"}) == ("Bq/m³", 1)
 
 
 def test_targets():

@@ -23,13 +23,13 @@ def answer_rows(given, report, rate):
 
 
 def read_rows(given):
-    rows = [("read", line) for line in read_lines(*given.read)] if given.read else []
+    rows = [("read", line) for line in read_lines(*given.read, given.said)] if given.read else []
     return rows + [(remark.kind, remark.placed()) for remark in given.remarks]
 
 
 def level_rows(given, report):
     job = given.read[0]
-    unit, size = meter_unit(job, given.unit)
+    unit, size = meter_unit(job, given.said)
     reading = level_on_meter(report.level, job, given.data, size)
     yield "level", f"{report.level:,} mBq/m³ indoors, the highest concentration that is 'below'"
     yield "level", f"{reading} {unit} on the meter{in_medium(job)}, without uncertainty, rounded down"

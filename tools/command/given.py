@@ -20,7 +20,7 @@ class Given(NamedTuple):
     data: bytes
     read: tuple  # the job and the book in the bytes; None where they can't be read
     remarks: list
-    unit: str = ""  # as the text says it; the bytes have fewer units
+    said: dict = {}  # the text's own words for each line of the job
 
 
 def bytes_in(name):
@@ -75,8 +75,8 @@ def text_given(source):
     if job is None:
         raise Mistake("is a book alone: a room needs the lines of a job too, rate to adult")
     data = all_bytes(job, book)
-    unit = " ".join(Text(source).fields["unit"][0])
-    return Given(data, read_text(decode(data, "job", source)), remarks_on(job, book), unit)
+    said = {word: " ".join(words) for word, (words, _) in Text(source).fields.items()}
+    return Given(data, read_text(decode(data, "job", source)), remarks_on(job, book), said)
 
 
 def book_given(name):

@@ -12,9 +12,9 @@ RISK = KINDS.index("risk")
 INDOOR_AIR, GROUNDWATER = MEDIA.index("indoor-air"), MEDIA.index("groundwater")
 
 
-def read_lines(job, book):
-    """A line for each thing that was read."""
-    return [rate_line(job), target_line(job), reading_line(job), *exposure_lines(job), chain_line(book)]
+def read_lines(job, book, said):
+    """A line for each thing that was read. What a text said is looked at for its unit alone, which the bytes may not have."""
+    return [rate_line(job), target_line(job), reading_line(job, said), *exposure_lines(job), chain_line(book)]
 
 
 def name_of(names, number):
@@ -29,7 +29,8 @@ def unit_of(job):
 
 def meter_unit(job, said):
     """The unit of the meter, which the text may say with another name than the bytes, and how many of theirs it is."""
-    return (said, LARGER_UNITS[said]) if said in LARGER_UNITS else (unit_of(job), 1)
+    unit = said.get("unit")
+    return (unit, LARGER_UNITS[unit]) if unit in LARGER_UNITS else (unit_of(job), 1)
 
 
 def medium_of(job):
@@ -47,9 +48,11 @@ def target_line(job):
     return f"{kind}, target {trimmed(decimal(job.target, 3))} mrem a year"
 
 
-def reading_line(job):
-    reading = " + ".join(same_places(job.value, job.uncertainty))
-    return f"{medium_of(job)}, {reading} {unit_of(job)}{carried(job)}"
+def reading_line(job, said):
+    reading = f"{' + '.join(same_places(job.value, job.uncertainty))} {unit_of(job)}"
+    if said.get("unit") in LARGER_UNITS:
+        reading = f"{said['value']} + {said['uncertainty']} {said['unit']} ({reading})"
+    return f"{medium_of(job)}, {reading}{carried(job)}"
 
 
 def same_places(*bits):
