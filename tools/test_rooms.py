@@ -13,7 +13,7 @@ from command import building
 from command.columns import NAME, WORDS
 from command.layout import WIDTH
 from command.results import ANSWERS
-from house import EXAMPLES, example, house_test
+from house import EXAMPLES, ROOT, example, house_test
 from textform.encode import encode
 from textform.words import Mistake
 
@@ -22,6 +22,7 @@ ROOM = {  # every line of a job
     "rate": "0.18 per hour", "kind": "risk", "medium": "indoor-air", "unit": "pCi/L", "target": "4_000_000", "attenuation": "1_000_000",
     "value": "4.0", "uncertainty": "0.4", "exposure": "worker", "child": "", "adult": "",
 }
+MANUAL_ORDER = list(ROOM)  # in which the manual has the columns
 ROOMS = (  # what differs, in each of a table's columns at least once
     {}, {"rate": "90"}, {"kind": "dose", "target": "100"}, {"medium": "soil-gas", "attenuation": "30000"}, {"unit": "Bq/m3", "value": "120"},
     {"medium": "groundwater", "attenuation": "1_000", "value": "100"}, {"exposure": "residential", "target": "100_000"},
@@ -279,3 +280,15 @@ def test_example(home):
     """The example's table has a room of each kind but 'close', and every line that its columns leave out."""
     status, out, said = home.run("rooms", BOOK, "examples/rooms.csv", "out.csv")
     assert (status, said) == (2, "") and {row["verdict"] for row in results(home)} == {"below", "above", "refused"}
+
+
+@house_test
+def test_manual(home):
+    """The manual shows the example's table and its summary, and names every column."""
+    manual = (ROOT / "docs" / "ROOMS.md").read_text(encoding="utf-8")
+    _, out, _ = home.run("rooms", BOOK, "examples/rooms.csv", "results.csv")
+    summary = "".join(line for line in out.splitlines(keepends=True) if not line.startswith(BOOK))
+    for text in ((EXAMPLES / "rooms.csv").read_text(), summary):
+        assert "".join(f"    {line}\n" for line in text.splitlines()) in manual, text
+    columns = [word for line in manual.splitlines() if line.startswith("| ") for word in line.split(" | ")[0].strip("| ").split(", ")]
+    assert [word for word in columns if word != "column"] == [NAME, *MANUAL_ORDER, *ANSWERS] and set(MANUAL_ORDER) == set(WORDS)
