@@ -4,7 +4,7 @@ import os
 import sys
 
 from command import crates
-from house import house_test
+from house import ROOT, house_test
 
 WORKROOM = "examples/workroom.txt"
 PROVER = f"""#!{sys.executable}
@@ -15,7 +15,7 @@ with open(crate.parent.parent / "asked", "a") as file:
 if crate.name == os.environ.get("FAILS"):
     print("many lines\\nlib.rt:3: cannot be proved")
     sys.exit(1)
-if sys.argv[1] == "run":
+if sys.argv[1] == "run" and not (crate / "out" / crate.name).exists():  # what is proved already is left as it is
     (crate / "out").mkdir(exist_ok=True)
     shutil.copy(crate / "made", crate / "out" / crate.name)
 """
@@ -46,9 +46,11 @@ def test_first_run(home):
     status, out, said = home.run("screen", WORKROOM, path=path)
     needed = crates.below(["screen", "fan"])
     assert status == 1 and "verdict        above" in out
-    assert said.splitlines()[0].startswith(f"screen and fan: not built yet; {len(needed)} crates are proved first")
+    assert said.splitlines()[0].startswith(f"screen and fan: not built yet; proving and building {len(needed)} crates, ")
     progress = [f"proving {crate} ({i} of {len(needed)}, {len(needed) - i} left)" for i, crate in enumerate(needed, 1)]
     assert said.splitlines()[1:] == progress and progress[-1].startswith("proving fan") and "proving book" in said
+    manual = (ROOT / "docs" / "COMMAND.md").read_text(encoding="utf-8")
+    assert "".join(f"    {line}\n" for line in said.splitlines()[:2]) in manual
     assert asked(home) == [f"{crate} lib" for crate in needed[:-2]] + ["screen run --", "fan run --"]
     assert home.run("screen", WORKROOM, path=path) == (1, out, "") and asked(home) == []
 
@@ -73,6 +75,7 @@ def test_newer_source(home):
         status, out, said = home.run("screen", WORKROOM, path=path)
         assert status == 1 and "above" in out and ("the source has changed since it was built" in said) == (again != [])
         assert [line for line in asked(home) if " run" in line] == again, changed
+        assert home.run("screen", WORKROOM, path=path) == (1, out, "") and asked(home) == [], "built again without a change"
     proof = home.source("book").parent.parent / "proofs" / "Deep" / "New.antt"
     proof.parent.mkdir(parents=True)
     proof.write_text("-- a proof\n")

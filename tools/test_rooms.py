@@ -264,7 +264,7 @@ def test_many_rooms(home):
 def test_stopped(home):
     """A stop leaves no table of results, and no part of one."""
     home.put_program("screen", f"#!{sys.executable}\nimport time\ntime.sleep(0.3)\n")
-    home.write("rooms.csv", table([{}] * 200))
+    home.write("rooms.csv", table([{}] * 1_000))
     before = home.files()
     words = [sys.executable, "./jelmorand", "rooms", BOOK, "rooms.csv", "out.csv"]
     env = dict(os.environ, PYTHONDONTWRITEBYTECODE="1")

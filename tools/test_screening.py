@@ -1,6 +1,7 @@
 """`./jelmorand screen`: what it shows of a room, what it says of one that it cannot answer, and the exit status."""
 
 import stat
+import sys
 
 import recorded
 import reference
@@ -9,7 +10,7 @@ from command.layout import WIDTH
 from command.meter import highest_reading, with_reading
 from command.numerals import in_a_power
 from command.read_back import meter_unit, read_lines
-from house import EXAMPLES, example, house_test
+from house import EXAMPLES, ROOT, example, house_test
 from textform.decode import decode
 from textform.text import read_text
 from textform.words import Mistake
@@ -21,6 +22,12 @@ NO_ANSWERS = {  # scripts in a program's place
     "fails": "import sys\nprint('verdict below')\nsys.exit(1)",
     "stops halfway": "print('factor 0 1099511627776')\nprint('concentration 1')\nprint('verdict below')",
     "says more": "print('verdict below')\nprint('rate 0')\nprint('and more')",
+    "answers twice": f"""
+import sys
+sys.path.insert(0, {str(ROOT / "docs" / "src")!r})
+import reference
+answer = reference.fan_answer if "/fan/" in sys.argv[0] else reference.answer
+print(2 * answer(sys.stdin.buffer.read()), end="")""",
     "is killed": "import os\nprint('rate 0', flush=True)\nos.kill(os.getpid(), 9)",
 }
 
@@ -192,7 +199,7 @@ def test_no_answer_is_taken_for_one(home):
     """Whatever is wrong with a program, there is no verdict, and its line says so."""
     for name in ("screen", "fan"):
         for why, script in NO_ANSWERS.items():
-            home.put_program(name, f"#!/usr/bin/env python3\n{script}\n")
+            home.put_program(name, f"#!{sys.executable}\n{script}\n")
             status, out, said = home.run("screen", WORKROOM)
             assert (status, out) == (2, "") and f"{WORKROOM}: {name}: no answer" in said, (name, why, out, said)
         home.put_program(name)

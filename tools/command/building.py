@@ -41,7 +41,7 @@ def build(late):
     if shutil.which("rt") is None:
         raise Failure(f"{' and '.join(late)}: {state(late)}, and rt, which proves and builds, was not found; docs/CHECKING.md says what it is")
     crates, began = below(late), time.time_ns()
-    tell(f"{' and '.join(late)}: {state(late)}; {len(crates)} crates are proved first, which can take half an hour")
+    tell(f"{' and '.join(late)}: {state(late)}; proving and building {len(crates)} crates, which can take half an hour")
     for done, crate in enumerate(crates):
         tell(f"proving {crate} ({done + 1} of {len(crates)}, {len(crates) - done - 1} left)")
         prove(crate, crate in late)
