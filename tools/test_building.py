@@ -97,9 +97,8 @@ def test_failed_proof(home):
         status, out, said = home.run("screen", WORKROOM, path=path)
     finally:
         del os.environ["FAILS"]
-    assert (status, out) == (2, "") and said.endswith(
-        "    many lines\n    lib.rt:3: cannot be proved\nverdict: not proved and built ('rt lib' in crates/verdict ended with status 1)\n"
-    )
+    last = "verdict: not proved and built ('rt lib' in crates/verdict ended with status 1)\n"
+    assert (status, out) == (2, "") and said.endswith(f"    many lines\n    lib.rt:3: cannot be proved\n{last}")
     assert home.run("screen", WORKROOM, path=path)[0] == 1
 
 

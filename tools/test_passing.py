@@ -43,7 +43,8 @@ def test_opening(home):
         periods = (0, 480, 400, 60)
         assert home.run("opening", f"{RADON}.{form}", *periods) == (0, reference.opening_lines(list(periods), book), "")
     assert home.run("opening", f"{RADON}.txt", 18, 1_441)[:2] == (2, "refused 22\n")
-    home.put_program("opening", "#!/bin/sh\n[ \"$*\" = '/dev/stdin 400 60 every 60' ] && echo 60 1.000E+00 7.703E-01\n")
+    words = "/dev/stdin 400 60 every 60"
+    home.put_program("opening", f"#!/bin/sh\n[ \"$*\" = '{words}' ] && echo 60 1.000E+00 7.703E-01\n")
     assert home.run("opening", f"{RADON}.txt", 400, 60, "every", 60) == (0, "60 1.000E+00 7.703E-01\n", "")
     assert home.run("opening", f"{RADON}.txt", 400, 60, "every", 61) == (2, "", f"{RADON}.txt: opening: no answer (status 1)\n")
 
@@ -70,8 +71,8 @@ def test_usage(home):
     commands = [line.split()[1] for line in out.splitlines()]
     assert commands == ["screen", "rooms", "fan", "table", "opening", "encode", "decode", "explain", "--help"]
     assert home.run("help") == home.run("-h") == (status, out, said)
-    for words in ((), ("scren", "x"), ("--helpp",), ("screen",), ("screen", "--reports", "x"), ("rooms", "a", "b"), ("fan",), ("table",),
-                  ("opening", "x"), ("rooms", "--forced", "a", "b", "c")):
+    for line in ("", "scren x", "--helpp", "screen", "screen --reports x", "rooms a b", "rooms --forced a b c", "fan", "table", "opening x"):
+        words = line.split()
         status, out, said = home.run(*words)
         assert (status, out, said.count("\n")) == (2, "", 1), words
         if words and words[0] in commands:

@@ -15,23 +15,25 @@ from command.layout import WIDTH
 from command.results import ANSWERS
 from house import EXAMPLES, ROOT, example, house_test
 from textform.encode import encode
+from textform.text import JOB_WORDS
 from textform.words import Mistake
 
 BOOK = "examples/workroom.txt"
 ROOM = {  # every line of a job
-    "rate": "0.18 per hour", "kind": "risk", "medium": "indoor-air", "unit": "pCi/L", "target": "4_000_000", "attenuation": "1_000_000",
-    "value": "4.0", "uncertainty": "0.4", "exposure": "worker", "child": "", "adult": "",
+    "rate": "0.18 per hour", "kind": "risk", "medium": "indoor-air", "unit": "pCi/L", "target": "4_000_000",
+    "attenuation": "1_000_000", "value": "4.0", "uncertainty": "0.4", "exposure": "worker", "child": "", "adult": "",
 }
 MANUAL_ORDER = list(ROOM)  # in which the manual has the columns
 ROOMS = (  # what differs, in each of a table's columns at least once
-    {}, {"rate": "90"}, {"kind": "dose", "target": "100"}, {"medium": "soil-gas", "attenuation": "30000"}, {"unit": "Bq/m3", "value": "120"},
-    {"medium": "groundwater", "attenuation": "1_000", "value": "100"}, {"exposure": "residential", "target": "100_000"},
-    {"exposure": "", "child": "0 0 0 0", "adult": "250 25 7:45 60"}, {"uncertainty": "0", "target": "0"}, {"target": "1000000000"},
+    {}, {"rate": "90"}, {"kind": "dose", "target": "100"}, {"medium": "soil-gas", "attenuation": "30000"},
+    {"unit": "Bq/m3", "value": "120"}, {"medium": "groundwater", "attenuation": "1_000", "value": "100"},
+    {"exposure": "residential", "target": "100_000"}, {"exposure": "", "child": "0 0 0 0", "adult": "250 25 7:45 60"},
+    {"uncertainty": "0", "target": "0"}, {"target": "1000000000"},
 )
 MISTAKES = (  # each refused in the words of a text
-    {"rate": "0.18"}, {"rate": "18 per minute"}, {"kind": "risque"}, {"medium": "air"}, {"unit": "pCi"}, {"value": "x"}, {"value": "4.0 4.0"},
-    {"uncertainty": "-"}, {"attenuation": "1.0"}, {"target": "1e9"}, {"exposure": "home"}, {"exposure": "", "child": "0 0 0", "adult": "1 1 1 1"},
-    {"exposure": "", "child": "0 0 0 0", "adult": "250 25 7.8 60"},
+    {"rate": "0.18"}, {"rate": "18 per minute"}, {"kind": "risque"}, {"medium": "air"}, {"unit": "pCi"}, {"value": "x"},
+    {"value": "4.0 4.0"}, {"uncertainty": "-"}, {"attenuation": "1.0"}, {"target": "1e9"}, {"exposure": "home"},
+    {"exposure": "", "child": "0 0 0", "adult": "1 1 1 1"}, {"exposure": "", "child": "0 0 0 0", "adult": "250 25 7.8 60"},
 )
 
 
@@ -89,7 +91,7 @@ def test_answers(home):
 
 @house_test
 def test_book_has_the_rest(home):
-    """What is the same for all rooms stands in the book's text; where a column says it too, the column counts, and that is told."""
+    """What is the same for all rooms stands in the book's text. Where a column says it too, that counts, and this is told."""
     status, out, said, found = screened(home, table(ROOMS[:2], (NAME, "rate", "value", "uncertainty")))
     assert (status, said) == (1, "") and [row["verdict"] for row in found] == ["above", "below"]
     assert f"{BOOK}: the columns count, and not its line 3, rate, line 9, value and line 10, uncertainty\n" in out
@@ -117,8 +119,9 @@ def test_same_words(home):
 @house_test
 def test_refused_by_screen(home):
     """What a text can say and `screen` refuses has the ground in words, and the warning that foresaw it."""
-    status, _, _, found = screened(home, table([{"rate": "100_001"}, {"attenuation": "999_999"}, {"value": "1e300"}]))
-    assert status == 2 and [row["refusal"][:9] for row in found] == ["ground 3:", "ground 5:", "ground 8:"]
+    rooms = {3: {"rate": "100_001"}, 5: {"attenuation": "999_999"}, 8: {"value": "4e9"}}
+    status, _, _, found = screened(home, table(rooms.values()))
+    assert status == 2 and [row["refusal"].partition(":")[0] for row in found] == [f"ground {ground}" for ground in rooms]
     assert "rate 100001: at most 100,000 hundredths" in found[0]["warnings"]
 
 
@@ -129,7 +132,8 @@ def test_empty_cells_and_names(home):
              {"child": "0 0 0 0"}, {"value": "4.0\n5.0"}, {"rate": "90"})
     status, out, _, found = screened(home, table(rooms).replace("4.0\n5.0", '"4.0\n5.0"'))
     said = [row["refusal"] for row in found]
-    assert status == 2 and said[:2] == ["value: the cell is empty", "a room without a name"] and "(no name), line 3: a room" in out
+    assert status == 2 and said[:2] == ["value: the cell is empty", "a room without a name"]
+    assert "(no name), line 3: a room without a name" in out
     assert said[2] == said[3] == "2 rooms of this name, in lines 4 and 5: which is meant?"
     assert said[4] == "exposure or child or adult: the cell is empty" and said[5] == "adult: the cell is empty"
     assert "leave one of the two out" in said[6] and said[7] == "value: the cell has more than one line"
@@ -147,7 +151,8 @@ def test_spreadsheets(home):
         data, found = (home.folder / "out.csv").read_bytes(), results(home, delimiter=delimiter)
         assert data.startswith(bom + b"name") and data.count(ending.encode()) == data.count(b"\n") == 4
         assert [row["verdict"] for row in found] == ["above", "refused", "above"] and found[0][NAME] == "Größe, A;B"
-        assert "value 4,0: " in found[1]["refusal"] and found[1]["refusal"].endswith("; a decimal has a point and no comma, such as 4.0")
+        said = found[1]["refusal"]
+        assert said.startswith("value 4,0: ") and said.endswith("has a point and no comma, such as 4.0"), said
     text = table([{}, {}], (NAME, "value", "uncertainty")).replace("Room 1,4.0", "Room 1,4,0")
     assert screened(home, text)[3][1]["refusal"].startswith("4 cells for 3 columns; a decimal has a point")
 
@@ -159,13 +164,14 @@ def test_wrong_columns(home):
     without = [word for word in WORDS if word != "uncertainty"]
     for text, part in (
         (table([{}], (NAME, *without)), "no column for uncertainty, and no line in chain.txt"),
-        (table([{}], (NAME, *without)).replace("value", "value,uncertanty").replace("4.0", "4.0,0.4"), "column 'uncertanty': the columns are name, rate"),
+        (table([{}]).replace("uncertainty", "uncertanty"), "column 'uncertanty': the columns are name, rate"),
         (table([{}], WORDS), "no column for name"),
         (table([{}], (NAME, *WORDS, "rate")), "two columns are named rate"),
-        (table([{}], (NAME, *(word for word in WORDS if word not in ("exposure", "child", "adult")))), "no column for exposure (or child and adult)"),
+        (table([{}], (NAME, *JOB_WORDS[:-2])), "no column for exposure (or child and adult)"),
         (table([{}]).replace("name,", "name,,").replace("Room 0,", "Room 0,x,"), "line 2: column 2 has no name"),
-        (table([]), "has no rooms"), ("", "is empty"), (table([{}]).replace("worker", '"worker'), "line 2: cannot be parted into cells"),
-        (table([{}]).encode("utf-16"), "is no text in UTF-8"), (table([{NAME: "Größe"}]).encode("latin-1"), "line 2: the byte 0xf6 is not text in UTF-8"),
+        (table([]), "has no rooms"), ("", "is empty"), (table([{}]).replace("worker", '"worker'), "line 2: cannot be parted"),
+        (table([{}]).encode("utf-16"), "is no text in UTF-8"),
+        (table([{NAME: "Größe"}]).encode("latin-1"), "line 2: the byte 0xf6 is not text in UTF-8"),
     ):
         home.write("rooms.csv", text)
         status, out, said = home.run("rooms", "chain.txt", "rooms.csv", "out.csv")
@@ -190,7 +196,8 @@ def test_nothing_is_overwritten(home):
             home.write(name, b"a letter")
         status, out, said = home.run("rooms", "--force", BOOK, "rooms.csv", name)
         assert (status, out) == (2, "") and said.startswith(f"{name}: is "), said
-    assert (home.folder / "letter.docx").read_bytes() == b"a letter" and (home.folder / "rooms.csv").read_text() == table([{"rate": "90"}])
+    assert (home.folder / "letter.docx").read_bytes() == b"a letter"
+    assert (home.folder / "rooms.csv").read_text() == table([{"rate": "90"}])
     status, _, said = home.run("rooms", BOOK, "rooms.csv", "none/out.csv")
     assert status == 2 and "none/out.csv: the folder" in said
     assert not [name for name in home.files() if name.endswith(".part")]
@@ -219,7 +226,8 @@ def test_no_answer(home):
     home.put_program("fan", "#!/bin/sh\nexit 1\n")
     status, out, _, found = screened(home, table([{}, {"rate": "0.18"}]))
     assert status == 2 and "2 rooms: 1 refused, 1 unanswered" in out
-    assert found[0]["verdict"] == "unanswered" and found[0]["refusal"].startswith("fan: no answer") and found[0]["level mBq/m3"] == ""
+    assert found[0]["verdict"] == "unanswered" and found[0]["refusal"].startswith("fan: no answer")
+    assert found[0]["level mBq/m3"] == found[0]["lowest rate per hour"] == ""
 
 
 @house_test
@@ -229,7 +237,8 @@ def test_summary(home):
     status, out, _, found = screened(home, table(rooms))
     lines = [line for line in out.splitlines() if not line.startswith(BOOK)]
     count = sum(row["verdict"] == "above" for row in found)
-    assert lines[0] == f"40 rooms: {39 - count} below, {count} above, 1 refused" and lines[1].startswith("refused        Room 39, line 41: rate 0.18: ")
+    assert lines[0] == f"40 rooms: {39 - count} below, {count} above, 1 refused"
+    assert lines[1].startswith("refused        Room 39, line 41: rate 0.18: ")
     assert lines[2].startswith("above          Room 38: ") and "level " in lines[2] and "lowest rate" in lines[2]
     assert f"and {count - 20} more above, in out.csv" in out and len(lines) < 30 and max(map(len, lines)) <= WIDTH
     assert lines.index(next(line for line in lines if line.startswith("below"))) > 20
@@ -290,5 +299,6 @@ def test_manual(home):
     summary = "".join(line for line in out.splitlines(keepends=True) if not line.startswith(BOOK))
     for text in ((EXAMPLES / "rooms.csv").read_text(), summary):
         assert "".join(f"    {line}\n" for line in text.splitlines()) in manual, text
-    columns = [word for line in manual.splitlines() if line.startswith("| ") for word in line.split(" | ")[0].strip("| ").split(", ")]
+    cells = [line.split(" | ")[0].strip("| ") for line in manual.splitlines() if line.startswith("| ")]
+    columns = [word for cell in cells for word in cell.split(", ")]
     assert [word for word in columns if word != "column"] == [NAME, *MANUAL_ORDER, *ANSWERS] and set(MANUAL_ORDER) == set(WORDS)

@@ -88,7 +88,7 @@ def test_what_was_read(home):
         (WORKROOM, ("0.18 air changes per hour", "risk, target 4 in 1,000", "indoor air, 4.0 + 0.4 pCi/L",
                     "worker, 250 days a year for 25 years, 8 hours a day",
                     "Rn-222 and seven daughters, ending with Po-214 and Tl-210")),
-        ("examples/guide.txt", ("dose, target 6.195 mrem a year", "residential, child, 350 days a year for 6 years, 24 hours a day",
+        ("examples/guide.txt", ("dose, target 6.195 mrem a year", "residential, child, 350 days a year for 6 years, 24 hours",
                                 "residential, adult, 350 days a year for 20 years", "Rn-222 alone, no daughters")),
         ("examples/actinon.txt", ("groundwater, 100 + 5 pCi/L, multiplied by 4.34 and by the attenuation 0.001",)),
         ("examples/thoron.txt", ("soil gas, 250.0 + 12.5 Bq/m³, multiplied by the attenuation 0.03",)),
@@ -109,8 +109,8 @@ def test_unit_of_a_text_alone():
 
 
 def test_targets():
-    for billionths, said in ((4_000_000, "4 in 1,000"), (1_610, "1.61 in 1,000,000"), (0, "0"), (10**9, "1 in 1"), (1, "1 in 1,000,000,000")):
-        assert in_a_power(billionths, 9) == said
+    said = {4_000_000: "4 in 1,000", 1_610: "1.61 in 1,000,000", 0: "0", 10**9: "1 in 1", 1: "1 in 1,000,000,000"}
+    assert {billionths: in_a_power(billionths, 9) for billionths in said} == said
 
 
 @house_test
@@ -161,7 +161,8 @@ def test_refused_in_words(home):
     home.write("fast.txt", example("radon", ("rate 0.18 per hour", "rate 100_001")))
     status, out, _ = home.run("screen", "fast.txt")
     shown = labelled(out)
-    assert status == 2 and shown["refused"].startswith("ground 3: The rate is more than 100,000 hundredths") and "Where to look: rate." in shown["refused"]
+    assert status == 2 and shown["refused"].startswith("ground 3: The rate is more than 100,000 hundredths")
+    assert shown["refused"].endswith("Where to look: rate.")
     assert "line 3: rate 100001: at most 100,000" in shown["to be refused"] and shown["read"].startswith("1,000.01 air changes")
     home.write("cut.job", (EXAMPLES / "radon.job").read_bytes()[:100])
     status, out, _ = home.run("screen", "cut.job")
@@ -206,6 +207,28 @@ def test_no_answer_is_taken_for_one(home):
     home.program("screen").chmod(stat.S_IRUSR)
     status, out, said = home.run("screen", "--report", WORKROOM)
     assert (status, out) == (2, "") and "no answer" in said
+
+
+@house_test
+def test_programs_that_disagree(home):
+    """A rate that the verdict does not fit is no answer, whichever of the two programs is wrong."""
+    for name, rate in (("workroom", "0"), ("actinon", "61"), ("actinon", "none")):
+        home.put_program("fan", f"#!/bin/sh\necho rate {rate}\n")
+        status, out, said = home.run("screen", f"examples/{name}.txt")
+        assert (status, out) == (2, "") and "fan does not agree" in said, name
+    home.put_program("fan", "#!/bin/sh\necho refused 3\n")
+    status, out, _ = home.run("screen", "examples/actinon.txt")
+    assert status == 2 and "below" not in out
+
+
+@house_test
+def test_old_hours(home):
+    """A job in whole hours, as they used to be, can be told by its hours alone: it is shown with a quarter of them."""
+    job = bytearray((EXAMPLES / "actinon.job").read_bytes())
+    assert "to be encoded again" not in home.run("screen", "examples/actinon.job")[1]
+    job[44] = 8
+    shown = labelled(home.run("screen", home.write("old.job", bytes(job)))[1])
+    assert "2 hours a day" in shown["read"] and "to be encoded again" in shown["warning"]
 
 
 def accepted_jobs():

@@ -1,1 +1,1 @@
-"""The command ./jelmorand: it reads texts and jobs, asks the proved programs, and says their answers in words (docs/COMMAND.md)."""
+"""The command ./jelmorand: it reads texts and jobs, asks the proved programs, says their answers (docs/COMMAND.md)."""

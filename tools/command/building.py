@@ -38,10 +38,11 @@ def make_ready(names):
 
 
 def build(late):
-    if shutil.which("rt") is None:
-        raise Failure(f"{' and '.join(late)}: {state(late)}, and rt, which proves and builds, was not found; docs/CHECKING.md says what it is")
     crates, began = below(late), time.time_ns()
-    tell(f"{' and '.join(late)}: {state(late)}; proving and building {len(crates)} crates, which can take half an hour")
+    why = f"{' and '.join(late)}: {state(late)}"
+    if shutil.which("rt") is None:
+        raise Failure(f"{why}, and rt, which proves and builds, was not found; docs/CHECKING.md says what it is")
+    tell(f"{why}; proving and building {len(crates)} crates, which can take half an hour")
     for done, crate in enumerate(crates):
         tell(f"proving {crate} ({done + 1} of {len(crates)}, {len(crates) - done - 1} left)")
         prove(crate, crate in late)
@@ -57,10 +58,10 @@ def state(late):
 def prove(crate, is_program):
     """Proves a crate, and builds it for those above it; a program is run once, since that builds it."""
     words = ["rt", "run", "--", *TRIAL.get(crate, [])] if is_program else ["rt", "lib"]
-    done = subprocess.run(
-        words, cwd=ROOT / "crates" / crate, stdin=subprocess.DEVNULL, stdout=subprocess.PIPE, stderr=subprocess.STDOUT, check=False
-    )
+    outputs = {"stdin": subprocess.DEVNULL, "stdout": subprocess.PIPE, "stderr": subprocess.STDOUT}
+    done = subprocess.run(words, cwd=ROOT / "crates" / crate, check=False, **outputs)
     if done.returncode != 0 or (is_program and not path_of(crate).is_file()):
         for line in done.stdout.decode(errors="replace").splitlines()[-LAST_LINES:]:
             tell(f"    {line}")
-        raise Failure(f"{crate}: not proved and built ('{' '.join(words[:2])}' in crates/{crate} ended with status {done.returncode})")
+        command = " ".join(words[:2])
+        raise Failure(f"{crate}: not proved and built ('{command}' in crates/{crate} ended with status {done.returncode})")

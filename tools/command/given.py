@@ -7,10 +7,12 @@ from textform.encode import all_bytes
 from textform.text import Text, read_text
 from textform.words import Mistake
 
-from .remarks import remarks_on, without_lines
+from .remarks import Line, remarks_on, without_lines
 from .tool import Failure, read_file
 
 JOB = 48  # bytes, before the book
+DAY = 24  # hours
+OLD = "the bytes count quarter hours: an older job, in whole hours, shows a quarter of them, and is to be encoded again"
 UTF_16 = (b"\xff\xfe", b"\xfe\xff")
 
 
@@ -67,7 +69,13 @@ def job_given(name):
         read = read_text(decode(data, "job"))
     except Mistake:
         return Given(data, None, [])
-    return Given(data, read, without_lines(remarks_on(*read)))
+    return Given(data, read, [*old_hours(read[0]), *without_lines(remarks_on(*read))])
+
+
+def old_hours(job):
+    """Nothing in the bytes tells a job in whole hours, as they used to be, from one in quarters of them."""
+    if any(0 < group.quarter_hours <= DAY for group in (job.child, job.adult)):
+        yield Line("warning", 0, OLD)
 
 
 def text_given(source):

@@ -9,7 +9,7 @@ from textform.words import Mistake
 
 from .columns import NAME
 from .numerals import listed
-from .programs import Refused, Report, lowest_rate, screened
+from .programs import Refused, Report, judged
 from .room import room_of
 from .tool import Failure
 from .verdicts import ground_in_words
@@ -34,7 +34,7 @@ def judged_all(sheet, at, book):
     pool = ThreadPoolExecutor(os.cpu_count())
     try:
         found = []
-        for outcome in pool.map(lambda row: judged(row, sheet, at, book, lines), sheet.rows):
+        for outcome in pool.map(lambda row: outcome_of(row, sheet, at, book, lines), sheet.rows):
             found.append(outcome)
             show_progress(len(found), len(sheet.rows))
         return found
@@ -61,7 +61,7 @@ def lines_of_names(sheet, at):
     return lines
 
 
-def judged(row, sheet, at, book, lines):
+def outcome_of(row, sheet, at, book, lines):
     """What comes of one row. Whatever keeps it from an answer, the others go on."""
     line, cells = row
     name = name_in(cells, at)
@@ -72,7 +72,7 @@ def judged(row, sheet, at, book, lines):
         return Judged(line, name, "refused", why=str(mistake))
     said = {"own": tuple(room.own), "shared": tuple(room.shared)}
     try:
-        report, rate = screened(room.data), lowest_rate(room.data)
+        report, rate = judged(room.data)
     except Refused as refused:
         return Judged(line, name, "refused", why=ground_in_words(refused.ground), **said)
     except Failure as failure:

@@ -75,6 +75,14 @@ def screened(data):
     return report_of(asked("screen", data))
 
 
-def lowest_rate(data):
-    """The lowest rate at which a job is 'below', in hundredths per hour, or None."""
-    return number(matched("fan", RATE, asked("fan", data))[1])
+def judged(data):
+    """The report on a job, and the lowest rate at which it is 'below', in hundredths per hour, or None.
+
+    The two are proved to agree. Programs that do not are no programs of one source, and neither is believed.
+    """
+    report = screened(data)
+    lowest = number(matched("fan", RATE, asked("fan", data))[1])
+    rate = int.from_bytes(data[:4], "little")
+    if (report.verdict == "below") != (lowest is not None and lowest <= rate):
+        raise Failure(f"screen says {report.verdict!r} at rate {rate}, and fan does not agree, so there is no answer")
+    return report, lowest

@@ -64,10 +64,10 @@ def check_chain(text):
 
 def shared_lines(book, at, found):
     """What all rooms have in common: the lines of the book's text that count, those that do not, and what is said of it."""
-    not_counted = [word for word in book.words if is_replaced(word, at)]
-    common = [word for word in book.words if word not in not_counted]
-    if not_counted:
-        yield f"{book.name}: the columns count, and not its {listed([f'line {book.words[word]}, {word}' for word in not_counted])}\n"
+    common = [word for word in book.words if not is_replaced(word, at)]
+    others = [f"line {line}, {word}" for word, line in book.words.items() if is_replaced(word, at)]
+    if others:
+        yield f"{book.name}: the columns count, and not its {listed(others)}\n"
     if common:
         yield f"{book.name}: the same in every room: {'; '.join(map(book.said, common))}\n"
     for remark in dict.fromkeys(remark for judged in found for remark in judged.shared):

@@ -5,7 +5,7 @@ from .building import make_ready
 from .given import job_given
 from .layout import rows
 from .outcomes import Outcome, lines_outcome, outcome_of, show_lines
-from .programs import REPORT, Refused, asked, lowest_rate, report_of, screened
+from .programs import REPORT, Refused, asked, judged, report_of
 from .tool import Failure, Usage, put
 from .verdicts import status, tally
 
@@ -47,8 +47,7 @@ def report_alone(name):
 def answer_in_words(name):
     given = job_given(name)
     try:
-        report = screened(given.data)
-        rate = lowest_rate(given.data)
+        report, rate = judged(given.data)
     except Refused as refused:
         return Outcome("refused", rows(refused_rows(given, refused.ground)))
     if given.read is None:
