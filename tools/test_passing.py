@@ -71,7 +71,8 @@ def test_usage(home):
     commands = [line.split()[1] for line in out.splitlines()]
     assert commands == ["screen", "rooms", "fan", "table", "opening", "encode", "decode", "explain", "--help"]
     assert home.run("help") == home.run("-h") == (status, out, said)
-    for line in ("", "scren x", "--helpp", "screen", "screen --reports x", "rooms a b", "rooms --forced a b c", "fan", "table", "opening x"):
+    for line in ("", "scren x", "--helpp", "screen", "screen --reports x", "rooms a b", "rooms --forced a b c", "fan", "table",
+                 "opening x"):
         words = line.split()
         status, out, said = home.run(*words)
         assert (status, out, said.count("\n")) == (2, "", 1), words
