@@ -277,7 +277,9 @@ def test_stopped(home):
     before = home.files()
     words = [sys.executable, "./jelmorand", "rooms", BOOK, "rooms.csv", "out.csv"]
     env = dict(os.environ, PYTHONDONTWRITEBYTECODE="1")
-    going = subprocess.Popen(words, cwd=home.folder, env=env, stdout=subprocess.PIPE, stderr=subprocess.PIPE)
+    heard = lambda: signal.signal(signal.SIGINT, signal.SIG_DFL)  # a shell has its background commands ignore it
+    outputs = {"stdout": subprocess.PIPE, "stderr": subprocess.PIPE}
+    going = subprocess.Popen(words, cwd=home.folder, env=env, preexec_fn=heard, **outputs)
     time.sleep(1)
     going.send_signal(signal.SIGINT)
     out, said = going.communicate(timeout=30)
