@@ -14,11 +14,10 @@ the target is worth 1 / (161,000 k) of the factor, the next rate 1 / (100 + V) o
 """
 
 from job_edges import SPLITS, codes, concentrations, exposures, fractions, rows, shifts, unusable
-from opening_edges import bad_books, widest
+from opening_edges import bad_books
 from packing import bits, pack_book, pack_feed, pack_job, pack_member
+from small_books import T1, TOP, widest
 
-T1 = 2_495_329_851_600  # the document's T'
-TOP = (1 << 32) - 1
 NONE = "rate none"
 
 

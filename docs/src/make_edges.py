@@ -3,12 +3,11 @@
 Each case is a rate, the length of the lent list and a book; the expected answer is typed here from document 01, not
 computed: the last accepted value and the first refused one for each ground, and cases that meet two grounds at once.
 """
-from packing import pack_book, pack_feed, pack_member
-from recorded import FACTORS, factors_body, outcomes, places_text
 
-KIND = FACTORS
-LEAST = 1  # of each sort that is counted
-G = 1 << 40
+from packing import pack_book, pack_feed, pack_member
+from recorded import FACTORS
+from recorder import Recorder, outcomes
+from small_books import G, fan, line, split
 
 
 def book(members, feeds, w=1000, zeros=bytes(4)):
@@ -29,25 +28,6 @@ def pair(share=100000, half_life=1, five=NONE, first=1, origin=0, following=0, s
     return book([(1, NONE, 0), (half_life, five, first, spare)], [(share, origin, following, feed_spare)])
 
 
-def line(n):
-    """n members, each fed wholly by the one before."""
-    return book([(1, NONE, i) for i in range(n)], [(100000, i, 0) for i in range(n - 1)])
-
-
-def fan(m):
-    """One daughter with m feeds of one share each from the parent."""
-    return book([(1, NONE, 0), (1, NONE, 1)], [(1, 0, j + 2 if j + 1 < m else 0) for j in range(m)])
-
-
-def split(a, b):
-    """Two daughters, fed a and b by the parent."""
-    return book([(1, NONE, 0), (1, NONE, 1), (1, NONE, 2)], [(a, 0, 0), (b, 0, 0)])
-
-
-def with_byte(data, at, value):
-    return data[:at] + bytes([value]) + data[at + 1:]
-
-
 def cases():
     """(what is at the edge, rate, room, book, answer): an answer is a refusal's number or the list of factors."""
     whole = [G, G]
@@ -58,8 +38,8 @@ def cases():
     yield '8 bytes pass ground 9', 0, 1, parent()[:8], 11
     yield 'n 0', 0, 1, book([], []), 10
     yield 'n 1', 0, 1, parent(), [G]
-    yield 'n 16', 0, 16, line(16), [G] * 16
-    yield 'n 17', 0, 17, line(17), 10
+    yield 'n 16', 0, 16, line(*[100_000] * 15), [G] * 16
+    yield 'n 17', 0, 17, line(*[100_000] * 16), 10
     yield 'm 64', 0, 2, fan(64), [G, 64 * G // 100000]
     yield 'm 65', 0, 2, fan(65), 10
     yield 'one byte less', 0, 2, pair()[:-1], 11
@@ -102,7 +82,7 @@ def cases():
     yield 'a ring of feeds', 0, 2, book([(1, NONE, 0), (1, NONE, 1)], [(1, 0, 2), (1, 0, 1)]), 15
     yield 'the parent has a feed', 0, 1, book([(1, NONE, 1)], [(1, 0, 0)]), 16
     yield 'a daughter has none', 0, 2, book([(1, NONE, 0), (1, NONE, 0)], []), 16
-    yield 'from the member before', 0, 3, line(3), [G] * 3
+    yield 'from the member before', 0, 3, line(100_000, 100_000), [G] * 3
     yield 'from the member itself', 0, 2, pair(origin=1), 17
     yield 'from a later member', 0, 3, book([(1, NONE, 0), (1, NONE, 1), (1, NONE, 2)], [(1, 2, 0), (1, 0, 0)]), 17
     yield 'shares out 100,000', 0, 3, split(50000, 50000), [G, G // 2, G // 2]
@@ -128,12 +108,15 @@ def cases():
     yield '18 and 19', 0, 0, split(50000, 50001), 18
 
 
-def made():
-    """The calls, what is written of each, and how many there are of each sort."""
-    calls = list(cases())
-    bodies = [factors_body(rate, book, room) for _, rate, room, book, _ in calls]
-    texts = [places_text(answer, room) for _, _, room, _, answer in calls]
-    return bodies, texts, outcomes([answer for *_, answer in calls], "filled", (3, *range(9, 20)))
+def typed():
+    return [(rate, book, room, answer) for _, rate, room, book, answer in cases()]
+
+
+def sorts(calls, answers):
+    return outcomes(answers, "filled", (3, *range(9, 20)))
+
+
+RECORDER = Recorder(FACTORS, 1, sorts, typed)
 
 
 if __name__ == "__main__":

@@ -8,15 +8,14 @@ The count of every outcome is made too, that of the rates by the verdict one rat
 import pathlib
 
 import lowest_edges
-import make_cases
 import reference as ref
-from make_cases import COEFFICIENTS, DAMAGE, LONGEST, T1, Case, Random
+from damage import DAMAGE, damaged, pair, refused, sturdy_case
+from draws import COEFFICIENTS, Case, largest_case, random_case, random_group, random_job, random_reading
 from packing import bits
 from recorded import LOWEST
+from recorder import Recorder
+from small_books import LONGEST, T1
 
-KIND = LOWEST
-LEAST = 4  # of each sort that is counted
-SEED = 0x4C6F77657374
 EXAMPLES = pathlib.Path(__file__).resolve().parents[2] / "examples"
 MOST_TARGET = 10**9
 
@@ -99,12 +98,12 @@ def until(rng, make, rate, before):
 def lively(rng, n=None, m=None):
     """A case at large, with a last member that lives long enough to be aired away and a coefficient that counts."""
     n = n or rng.between(2, 6)
-    case = make_cases.random_case(rng, n, m)
+    case = random_case(rng, n, m)
     last = case.members[n - 1]
     last["T"] = rng.one_of((T1, LONGEST, rng.between(LONGEST // 1_000, LONGEST)))
     for name in COEFFICIENTS:
         last[name] = rng.between(ref.MOST // 1_000, ref.MOST)
-    case.job.update(value=rng.one_of((bits(rng.between(1, 10_000) / 8), make_cases.random_reading(rng, case.job["unit"]))),
+    case.job.update(value=rng.one_of((bits(rng.between(1, 10_000) / 8), random_reading(rng, case.job["unit"]))),
                     AF=10**6 if case.job["medium"] == 0 else rng.between(1, 200_000), adult=(350, rng.between(1, 30), 96, 20))
     return case
 
@@ -117,9 +116,9 @@ def fine(rng, n=None):
         members[n - 1][name] = rng.between(ref.MOST // 10, ref.MOST)
         members[rng.between(1, n - 1)][name] = rng.spread(0, ref.MOST)
     shares = [rng.spread(1, 100_000) for _ in range(n - 2)] + [rng.spread(1, 2_000)]
-    job = make_cases.random_job(rng)
+    job = random_job(rng)
     job.update(medium=0, AF=10**6, unit=2, value=bits(rng.between(1, 4_000_000) / 1.0), uncertainty=0,
-               child=(366, 100, 96, 100), adult=make_cases.random_group(rng, may_be_empty=False))
+               child=(366, 100, 96, 100), adult=random_group(rng, may_be_empty=False))
     return Case(job, members, [(i, share, i - 1) for i, share in enumerate(shares, 1)], rng)
 
 
@@ -145,7 +144,7 @@ def aimed_jobs(rng):
 
 def sized_jobs(rng):
     """1 to 16 members and up to 64 feeds, each after 'above'; and some after 'close'."""
-    made = [until(rng, lambda rng: make_cases.random_case(rng, 1), rate, "above") for rate in (0, 0, 0, None, None, None)]
+    made = [until(rng, lambda rng: random_case(rng, 1), rate, "above") for rate in (0, 0, 0, None, None, None)]
     for n in range(2, 17):
         made.append(until(rng, lambda rng: lively(rng, n), any_rate, "above"))
     for n, m in ((2, 64), (3, 64), (8, 32), (16, 64), (16, 64)):
@@ -163,7 +162,7 @@ def spread_out(rng):
             case = lively(rng, rng.between(2, 4))
             case.job.update(kind=kind, medium=medium, unit=unit, AF=10**6 if medium == 0 else rng.between(1_000, 200_000),
                             value=bits(rng.between(1, 1_000_000) / 37_000 * (1, 1_000, 37)[unit]),
-                            uncertainty=rng.one_of((0, make_cases.random_reading(rng, unit))))
+                            uncertainty=rng.one_of((0, random_reading(rng, unit))))
             return case
         made.append(until(rng, make, any_rate, "above"))
     return made
@@ -248,9 +247,9 @@ def example_jobs():
 
 
 def plain_jobs(rng):
-    """At large, as make_cases.py draws them; and every number at its limit."""
-    made = [make_cases.random_case(rng).data() for _ in range(8)]
-    return made + [make_cases.largest_case(rng, kind, v, T).data() for kind in (0, 1) for v in (0, 100_000) for T in (1, LONGEST)]
+    """At large, as draws.py draws them; and every number at its limit."""
+    made = [random_case(rng).data() for _ in range(8)]
+    return made + [largest_case(rng, kind, v, T).data() for kind in (0, 1) for v in (0, 100_000) for T in (1, LONGEST)]
 
 
 def refused_jobs(rng):
@@ -260,20 +259,23 @@ def refused_jobs(rng):
     for ground, damages in sorted(DAMAGE.items()):
         ways = damages if ground > 8 else [rng.one_of(damages) for _ in range(2)]
         for damage in ways:
-            data = make_cases.damaged(rng, make_cases.sturdy_case(rng), damage)
-            assert make_cases.refused(data) == ground
+            data = damaged(rng, sturdy_case(rng), damage)
+            assert refused(data) == ground
             made.append(data)
     pairs = [(low, low + 1) for low in range(1, 18)] + [(1, 3)] + [(3, high) for high in range(5, 19)]
-    return made + [make_cases.pair(rng, low, high) for low, high in pairs]
+    return made + [pair(rng, low, high) for low, high in pairs]
 
 
 # ---- Out -----------------------------------------------------------------------------------------
 
 
-def all_jobs():
-    rng = Random(SEED)
+def all_jobs(rng):
     made = aimed_jobs(rng) + sized_jobs(rng) + spread_out(rng) + grain_jobs(rng) + example_jobs()
-    return made + plain_jobs(rng) + refused_jobs(rng)
+    return [(data,) for data in made + plain_jobs(rng) + refused_jobs(rng)]
+
+
+def typed_jobs():
+    return [(data, answer + "\n") for data, answer in lowest_edges.edges()]
 
 
 def outcomes(texts):
@@ -312,16 +314,16 @@ def kinds_of_answers(answers):
     return counts
 
 
-def made():
-    """The jobs, their texts, and how many there are of each sort."""
-    typed = list(lowest_edges.edges())
-    jobs = [data for data, _ in typed] + all_jobs()
-    texts = [ref.fan_answer(data) for data in jobs]
-    for (_, answer), text in zip(typed, texts):
-        assert text == answer + "\n", (text, answer)
-    for data, text in zip(jobs, texts):
+def sorts(calls, texts):
+    return outcomes(texts) | kinds_of_answers(list(found([data for data, in calls], texts)))
+
+
+def check(calls, texts):
+    for (data,), text in zip(calls, texts):
         ref.check_lowest(data, text)
-    return jobs, texts, outcomes(texts) | kinds_of_answers(list(found(jobs, texts)))
+
+
+RECORDER = Recorder(LOWEST, 4, sorts, typed_jobs, all_jobs, 0x4C6F77657374, check=check)
 
 
 if __name__ == "__main__":

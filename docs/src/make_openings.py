@@ -4,16 +4,15 @@ make_recorded.py writes them.
 The count of every outcome is made too, and that of the filled ones by their periods, their minutes and their places.
 """
 
-import make_cases
 import opening_edges
 import reference as ref
-from make_cases import DAMAGE, LONGEST, T1, TOP, Case, Random
-from make_tables import book_of, random_rate
-from recorded import OPENING, opening_body, outcomes, places_text
+from damage import DAMAGE, damaged, damaged_book, damaged_twice, sturdy_case
+from draws import Case, book_of, capped_case, halved_case, random_case, thin_case
+from make_tables import random_rate
+from recorded import OPENING
+from recorder import Recorder, outcomes
+from small_books import LONGEST, T1, TOP
 
-KIND = OPENING
-LEAST = 5  # of each sort that is counted
-SEED = 0x4F70656E696E6773
 MOST_ROOM = 20  # a few places more than a book has members
 
 
@@ -41,12 +40,12 @@ def enough(rng, numbers, book):
 
 
 def random_openings(rng):
-    made = [enough(rng, random_periods(rng, 5), book_of(make_cases.random_case(rng))) for _ in range(150)]
-    made += [enough(rng, random_periods(rng, 3), book_of(make_cases.random_case(rng, n))) for n in range(1, 17)]
-    made += [enough(rng, random_periods(rng, 3), book_of(make_cases.random_case(rng, n, 64))) for n in (2, 3, 5, 8, 16, 16)]
-    made += [enough(rng, random_periods(rng, 4), book_of(make_cases.thin_case(rng))) for _ in range(16)]
-    made += [enough(rng, random_periods(rng, 4), book_of(make_cases.capped_case(rng))) for _ in range(12)]
-    made += [enough(rng, random_periods(rng, 4), book_of(make_cases.halved_case(rng))) for _ in range(12)]
+    made = [enough(rng, random_periods(rng, 5), book_of(random_case(rng))) for _ in range(150)]
+    made += [enough(rng, random_periods(rng, 3), book_of(random_case(rng, n))) for n in range(1, 17)]
+    made += [enough(rng, random_periods(rng, 3), book_of(random_case(rng, n, 64))) for n in (2, 3, 5, 8, 16, 16)]
+    made += [enough(rng, random_periods(rng, 4), book_of(thin_case(rng))) for _ in range(16)]
+    made += [enough(rng, random_periods(rng, 4), book_of(capped_case(rng))) for _ in range(12)]
+    made += [enough(rng, random_periods(rng, 4), book_of(halved_case(rng))) for _ in range(12)]
     return made
 
 
@@ -54,7 +53,7 @@ def first_minutes(rng):
     """One minute, two, three: hardly any old factor, so that F and its rounding show."""
     made = []
     for minutes in (1, 2, 3) * 8:
-        case = make_cases.random_case(rng, rng.between(2, 6))
+        case = random_case(rng, rng.between(2, 6))
         for member in case.members[1:]:
             member["T"] = rng.one_of((1, rng.between(1, 10**9), rng.spread(1, LONGEST)))
         made.append(enough(rng, [random_rate(rng), minutes], book_of(case)))
@@ -65,7 +64,7 @@ def shut_and_aired(rng):
     """A high rate after rate 0, and the reverse: the factors fall, or rise again."""
     made = []
     for _ in range(12):
-        case = make_cases.random_case(rng, rng.between(2, 6))
+        case = random_case(rng, rng.between(2, 6))
         high = rng.one_of((100, 600, 5_000, 100_000))
         before, after = rng.between(1, 480), random_minutes(rng)
         made.append(enough(rng, [0, before, high, after], book_of(case)))
@@ -78,7 +77,7 @@ def one_rate_in_two_periods(rng):
     made = []
     for _ in range(12):
         v, a, b = random_rate(rng), random_minutes(rng), random_minutes(rng)
-        book = book_of(make_cases.random_case(rng, rng.between(2, 6)))
+        book = book_of(random_case(rng, rng.between(2, 6)))
         in_two, in_one = enough(rng, [v, a, v, b], book), enough(rng, [v, a + b], book)
         assert ref.opening_call(*in_two) == ref.opening_call(*in_one)
         made += [in_two, in_one]
@@ -112,7 +111,7 @@ def many_periods(rng):
     made = []
     for count in (31, 32, 32, 32):
         numbers = [number for _ in range(count) for number in (random_rate(rng), rng.between(1, 9))]
-        made.append(enough(rng, numbers, book_of(make_cases.random_case(rng, rng.between(2, 5)))))
+        made.append(enough(rng, numbers, book_of(random_case(rng, rng.between(2, 5)))))
     return made
 
 
@@ -121,16 +120,16 @@ def whole_days(rng):
     made = []
     for _ in range(8):
         numbers = [number for _ in range(rng.between(1, 4)) for number in (random_rate(rng), rng.between(600, 1_440))]
-        made.append(enough(rng, numbers, book_of(make_cases.random_case(rng, rng.between(3, 8)))))
+        made.append(enough(rng, numbers, book_of(random_case(rng, rng.between(3, 8)))))
     return made
 
 
 def whole_runs(rng):
     """32 periods of 1,440 minutes: one daughter, and 16 members with 64 feeds at rates at large, at rate 0 and by turns."""
     at_large = [number for _ in range(32) for number in (random_rate(rng), 1_440)]
-    made = [enough(rng, at_large, book_of(make_cases.random_case(rng, 2)))]
+    made = [enough(rng, at_large, book_of(random_case(rng, 2)))]
     for numbers in (at_large, [0, 1_440] * 32, [0, 1_440, 100_000, 1_440] * 16):
-        made.append(enough(rng, numbers, book_of(make_cases.random_case(rng, 16, 64))))
+        made.append(enough(rng, numbers, book_of(random_case(rng, 16, 64))))
     return made
 
 
@@ -141,7 +140,7 @@ def short_openings(rng):
     """Good but for the room."""
     made = []
     for _ in range(14):
-        numbers, book = random_periods(rng, 4), book_of(make_cases.random_case(rng, rng.between(1, 16)))
+        numbers, book = random_periods(rng, 4), book_of(random_case(rng, rng.between(1, 16)))
         made.append((numbers, book, rng.one_of((book[0] - 1, book[0] - 1, 0, rng.between(0, book[0] - 1)))))
     return made
 
@@ -166,9 +165,9 @@ def spoiled_openings(rng):
     made = []
     while len(made) < 70:
         numbers = spoiled(rng, random_periods(rng, 5))
-        data = make_cases.sturdy_case(rng).data()
+        data = sturdy_case(rng).data()
         if rng.between(0, 1) == 0:
-            data = make_cases.damaged(rng, make_cases.sturdy_case(rng), rng.one_of(DAMAGE[rng.between(9, 18)]))
+            data = damaged(rng, sturdy_case(rng), rng.one_of(DAMAGE[rng.between(9, 18)]))
         room = rng.between(0, 8)
         if ref.opening_call(numbers, data[48:], room) in (3, 22):
             made.append((numbers, data[48:], room))
@@ -181,32 +180,21 @@ def damaged_openings(rng):
     for ground in range(9, 19):
         good = random_periods(rng, 4)
         for numbers, room in ((good, 16), (good, 20), (good, rng.between(0, 2)), (good + [100_001], 5), (good + [100_000], 5)):
-            data = make_cases.damaged(rng, make_cases.sturdy_case(rng), rng.one_of(DAMAGE[ground]))
-            assert make_cases.refused(data) == ground
-            made.append((numbers, data[48:], room))
+            made.append((numbers, damaged_book(rng, ground), room))
     return made
 
 
 def two_ground_openings(rng):
     """Neighbouring grounds of the book in one book, with 19 besides."""
-    return [(random_periods(rng, 3), make_cases.pair(rng, ground, ground + 1)[48:], rng.between(0, 1))
+    return [(random_periods(rng, 3), damaged_twice(rng, ground), rng.between(0, 1))
             for ground in range(9, 18)]
 
 
 # ---- Out -----------------------------------------------------------------------------------------
 
 
-def typed_openings():
-    made = []
-    for numbers, book, room, answer in opening_edges.edges():
-        assert ref.opening_call(numbers, book, room) == answer, (numbers[:9], room, answer)
-        made.append((numbers, book, room))
-    return made
-
-
-def all_openings():
-    rng = Random(SEED)
-    made = typed_openings() + random_openings(rng) + first_minutes(rng) + shut_and_aired(rng) + one_rate_in_two_periods(rng)
+def drawn_openings(rng):
+    made = random_openings(rng) + first_minutes(rng) + shut_and_aired(rng) + one_rate_in_two_periods(rng)
     made += limit_openings(rng) + many_periods(rng) + short_openings(rng) + spoiled_openings(rng) + damaged_openings(rng)
     return made + two_ground_openings(rng) + whole_days(rng) + whole_runs(rng)
 
@@ -235,14 +223,11 @@ def check_promise(openings, answers):
             ref.check_minutes(numbers[0], ref.read_book(book), min(60, numbers[1]))
 
 
-def made():
-    """The calls, what is written of each, and how many there are of each sort."""
-    openings = all_openings()
-    answers = [ref.opening_call(*opening) for opening in openings]
-    check_promise(openings, answers)
-    texts = [places_text(answer, room) for answer, (_, _, room) in zip(answers, openings)]
-    counts = outcomes(answers, "filled", (3, *range(9, 20), 22)) | kinds_of_periods(openings, answers)
-    return [opening_body(*opening) for opening in openings], texts, counts
+def sorts(openings, answers):
+    return outcomes(answers, "filled", (3, *range(9, 20), 22)) | kinds_of_periods(openings, answers)
+
+
+RECORDER = Recorder(OPENING, 5, sorts, opening_edges.edges, drawn_openings, 0x4F70656E696E6773, check=check_promise)
 
 
 if __name__ == "__main__":

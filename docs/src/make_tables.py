@@ -7,15 +7,15 @@ between two.
 
 from math import ceil, floor
 
-import make_cases
+import draws
 import reference as ref
 import table_edges
-from make_cases import DAMAGE, Random
-from recorded import TABLE, buffer_text, outcomes, table_body
+from damage import damaged_book, damaged_twice
+from draws import book_of, capped_case, random_case, thin_case
+from recorded import TABLE
+from recorder import Recorder, outcomes
+from small_books import falling, split
 
-KIND = TABLE
-LEAST = 3  # of each sort that is counted
-SEED = 0x5461626C65733A33
 FAR_TOO_MUCH = 65_536  # bytes of a buffer
 
 
@@ -23,18 +23,13 @@ FAR_TOO_MUCH = 65_536  # bytes of a buffer
 
 
 def random_rate(rng):
-    return rng.one_of((make_cases.random_rate(rng), rng.between(0, 10 ** rng.between(1, 5))))
+    return rng.one_of((draws.random_rate(rng), rng.between(0, 10 ** rng.between(1, 5))))
 
 
 def random_rates(rng, most):
     """Rates of every length, in any order; now and then one comes again."""
     rates = [random_rate(rng) for _ in range(rng.between(1, most))]
     return rates + [rates[0]] * (rng.between(0, 5) == 0)
-
-
-def book_of(case):
-    """The book alone: the job's 48 bytes go."""
-    return case.data()[48:]
 
 
 def spare_room(rng):
@@ -47,22 +42,22 @@ def enough(rng, rates, book):
 
 
 def random_tables(rng):
-    made = [enough(rng, random_rates(rng, 8), book_of(make_cases.random_case(rng))) for _ in range(70)]
-    made += [enough(rng, random_rates(rng, 4), book_of(make_cases.random_case(rng, n))) for n in range(1, 17)]
-    made += [enough(rng, random_rates(rng, 4), book_of(make_cases.random_case(rng, n, 64))) for n in (2, 5, 16)]
-    made += [enough(rng, random_rates(rng, 6), book_of(make_cases.thin_case(rng))) for _ in range(16)]
-    made += [enough(rng, random_rates(rng, 6), book_of(make_cases.capped_case(rng))) for _ in range(8)]
+    made = [enough(rng, random_rates(rng, 8), book_of(random_case(rng))) for _ in range(70)]
+    made += [enough(rng, random_rates(rng, 4), book_of(random_case(rng, n))) for n in range(1, 17)]
+    made += [enough(rng, random_rates(rng, 4), book_of(random_case(rng, n, 64))) for n in (2, 5, 16)]
+    made += [enough(rng, random_rates(rng, 6), book_of(thin_case(rng))) for _ in range(16)]
+    made += [enough(rng, random_rates(rng, 6), book_of(capped_case(rng))) for _ in range(8)]
     return made
 
 
 def long_tables(rng):
     """Many rates: 199 and 200 of them, the longest text that there is, and far more room than is needed."""
-    made = [enough(rng, [rng.between(0, 100_000) for _ in range(count)], book_of(make_cases.random_case(rng, n)))
+    made = [enough(rng, [rng.between(0, 100_000) for _ in range(count)], book_of(random_case(rng, n)))
             for count, n in ((199, 2), (200, 3), (200, 1), (120, 6), (60, 16))]
-    widest = book_of(make_cases.random_case(rng, 16, 64))
+    widest = book_of(random_case(rng, 16, 64))
     made.append(([100_000] * 200, widest, 200 * (6 + 16 * 10 + 1)))
-    made.append((random_rates(rng, 9), book_of(make_cases.random_case(rng, 4)), FAR_TOO_MUCH))
-    made.append((random_rates(rng, 9), book_of(make_cases.random_case(rng, 5)), 10_000))
+    made.append((random_rates(rng, 9), book_of(random_case(rng, 4)), FAR_TOO_MUCH))
+    made.append((random_rates(rng, 9), book_of(random_case(rng, 5)), 10_000))
     return made
 
 
@@ -89,7 +84,7 @@ def boundary_tables(rng):
     made = []
     for k in range(30):
         rates = rng.shuffled([100] + random_rates(rng, 3) * (k % 3 == 0))
-        made.append(enough(rng, rates, table_edges.falling(*boundary_grains(rng))))
+        made.append(enough(rng, rates, falling(*boundary_grains(rng))))
     return made
 
 
@@ -98,7 +93,7 @@ def share_tables(rng):
     made = []
     for _ in range(12):
         shares = [10 * rng.between(1_000, 1_900) + 5 for _ in range(rng.between(1, 5))]
-        made.append(enough(rng, [0], table_edges.split(*shares)))
+        made.append(enough(rng, [0], split(*shares)))
     return made
 
 
@@ -109,7 +104,7 @@ def short_tables(rng):
     """Good but for the room: one byte too little, one line, or nearly all of it."""
     made = []
     for _ in range(14):
-        rates, book = random_rates(rng, 8), book_of(make_cases.random_case(rng))
+        rates, book = random_rates(rng, 8), book_of(random_case(rng))
         length = len(ref.table_text(rates, ref.read_book(book)))
         made.append((rates, book, rng.one_of((length - 1, length - 1, length - 11, rng.between(0, length - 1)))))
     return made
@@ -120,10 +115,8 @@ def damaged_tables(rng):
     made = []
     for ground in range(9, 19):
         for rates in (random_rates(rng, 5), random_rates(rng, 5), []):
-            case = make_cases.sturdy_case(rng)
-            data = make_cases.damaged(rng, case, rng.one_of(DAMAGE[ground]))
-            assert make_cases.refused(data) == ground
-            made.append((rates, data[48:], rng.one_of((0, 5, rng.between(0, 120)))))
+            book = damaged_book(rng, ground)
+            made.append((rates, book, rng.one_of((0, 5, rng.between(0, 120)))))
     return made
 
 
@@ -131,27 +124,18 @@ def two_ground_tables(rng):
     """Neighbouring grounds of the book in one book, with 20 besides; and a rate out of range with each."""
     made = []
     for ground in range(9, 18):
-        made.append(([], make_cases.pair(rng, ground, ground + 1)[48:], 40))
+        made.append(([], damaged_twice(rng, ground), 40))
         if ground % 3 == 0:
             rates = rng.shuffled(random_rates(rng, 5) + [rng.between(100_001, (1 << 32) - 1)])
-            made.append((rates, make_cases.pair(rng, ground, ground + 1)[48:], 40))
+            made.append((rates, damaged_twice(rng, ground), 40))
     return made
 
 
 # ---- Out -----------------------------------------------------------------------------------------
 
 
-def typed_tables():
-    made = []
-    for rates, book, room, answer in table_edges.edges():
-        assert ref.table_call(rates, book, room) == answer, (rates[:9], room, answer)
-        made.append((rates, book, room))
-    return made
-
-
-def all_tables():
-    rng = Random(SEED)
-    made = typed_tables() + random_tables(rng) + long_tables(rng) + boundary_tables(rng) + share_tables(rng)
+def drawn_tables(rng):
+    made = random_tables(rng) + long_tables(rng) + boundary_tables(rng) + share_tables(rng)
     return made + short_tables(rng) + damaged_tables(rng) + two_ground_tables(rng)
 
 
@@ -179,14 +163,15 @@ def halves(tables, answers):
     return {"halves": len(seen), "different halves": len(set(seen))}
 
 
-def made():
-    """The calls, what is written of each, and how many there are of each sort."""
-    tables = all_tables()
-    answers = [ref.table_call(*table) for table in tables]
-    texts = [buffer_text(answer, room) for answer, (_, _, room) in zip(answers, tables)]
-    counts = outcomes(answers, "written", (3, *range(9, 19), 20, 21)) | exponents(answers) | halves(tables, answers)
-    assert counts["different halves"] == 18
-    return [table_body(*table) for table in tables], texts, counts
+def sorts(tables, answers):
+    return outcomes(answers, "written", (3, *range(9, 19), 20, 21)) | exponents(answers) | halves(tables, answers)
+
+
+def check(tables, answers):
+    assert halves(tables, answers)["different halves"] == 18
+
+
+RECORDER = Recorder(TABLE, 3, sorts, table_edges.edges, drawn_tables, 0x5461626C65733A33, check=check)
 
 
 if __name__ == "__main__":

@@ -7,41 +7,13 @@ it is (60 x + G) / 128, at rate 0 (60 x + G) / 61, at rate 100 (60 x + G) / 62, 
 """
 
 from packing import pack_book, pack_feed, pack_member
-from table_edges import daughter, parent, split
-
-G = 1 << 40
-T1 = 2_495_329_851_600  # the document's T'
-LONGEST = 60_000_000_000_000  # of a daughter; 10^15 of the parent
-TOP = (1 << 32) - 1
-
-
-# ---- Books ---------------------------------------------------------------------------------------
+from small_books import G, LONGEST, T1, TOP, branched, daughter, fan, parent, split, widest
 
 
 def line(*half_lives):
     """Each member fed wholly by the one before; the parent has the longest half-life, which changes nothing."""
     members = [pack_member(10**15)] + [pack_member(T, first=k + 1) for k, T in enumerate(half_lives)]
     return pack_book(members, [pack_feed(100_000, k) for k in range(len(half_lives))])
-
-
-def branched(T=T1):
-    """Members 1 and 2 half each from 0, member 3 wholly from both: 200,000 hundred-thousandths flow into it."""
-    return pack_book([pack_member(1)] + [pack_member(T, first=k) for k in (1, 2, 3)],
-                     [pack_feed(50_000, 0), pack_feed(50_000, 0), pack_feed(100_000, 1, 4), pack_feed(100_000, 2)])
-
-
-def fan(m, T=T1):
-    """One daughter with m feeds of one share each from the parent."""
-    feeds = [pack_feed(1, 0, k + 1 if k < m else 0) for k in range(1, m + 1)]
-    return pack_book([pack_member(1), pack_member(T, first=1)], feeds)
-
-
-def widest():
-    """16 members and 64 feeds: a line with shares of 40,000, and 49 feeds more of one share each into the last one. It is for
-    rates and periods that are refused, and for runs that nobody works by hand."""
-    members = [pack_member(10**15)] + [pack_member(T1, first=k) for k in range(1, 16)]
-    feeds = [pack_feed(40_000, k) for k in range(14)] + [pack_feed(40_000, 14, 16)]
-    return pack_book(members, feeds + [pack_feed(1, k % 15, k + 1 if k < 64 else 0) for k in range(16, 65)])
 
 
 # ---- Minutes worked by hand ----------------------------------------------------------------------
@@ -70,7 +42,7 @@ def several_members():
     yield [300, 1], line(T1, T1, T1, T1, T1, T1, T1), [G, 1 << 34, 1 << 28, 1 << 22, 1 << 16, 1 << 10, 1 << 4, 0]
     yield [300, 1], branched(), [G, 1 << 33, 1 << 33, 1 << 28]
     yield [300, 2], branched(), [G, 31 << 29, 31 << 29, 23 << 25]
-    yield [300, 1], fan(64), [G, 10_995_116]  # F is 703,687,441
+    yield [300, 1], fan(64, T1), [G, 10_995_116]  # F is 703,687,441
     yield [300, 2], split(*[6_250] * 15), [G] + [(1 << 36) - 1] * 15  # T is 1, and a 12th of a grain is lost to the air
 
 

@@ -19,53 +19,62 @@ before it, and a line feed.
 
 import pathlib
 import struct
+import typing
 
-JOB, LOWEST, FACTORS, TABLE, OPENING = range(5)
 PLACE = 7
 BYTE = "#"
 
 CRATE = pathlib.Path(__file__).resolve().parents[2] / "crates" / "recorded"
 
 
-# ---- Records -------------------------------------------------------------------------------------
+class Kind(typing.NamedTuple):
+    """What there is to a kind of recorded case. A call is what the reference's function takes, its parts in their order."""
+
+    number: int
+    asks: str  # the reference's function for the call
+    pack: typing.Callable  # the parts of a call to its body
+    unpack: typing.Callable  # a body to the call's parts
+    text: typing.Callable  # the answer and the parts to what is written
+    end: typing.Callable  # the whole text, where an answer starts in it and the parts to where the answer ends
 
 
-def record(kind, body):
-    return struct.pack("<BI", kind, len(body)) + body
+# ---- Bodies --------------------------------------------------------------------------------------
 
 
-def factors_body(rate, book, room):
+def one_part(body):
+    return (body,)
+
+
+def pack_factors(rate, book, room):
     return struct.pack("<IH", rate, room) + book
 
 
-def table_body(rates, book, room):
-    return struct.pack(f"<IH{len(rates)}I", room, len(rates), *rates) + book
+def unpack_factors(body):
+    rate, room = struct.unpack_from("<IH", body)
+    return rate, body[6:], room
 
 
-def opening_body(numbers, book, room):
-    return struct.pack(f"<HH{len(numbers)}I", room, len(numbers), *numbers) + book
+def counted(head):
+    """The packer and the unpacker of a list of numbers, a book and the room that is lent, whose head is room and count."""
+    def pack(numbers, book, room):
+        return struct.pack(f"{head}{len(numbers)}I", room, len(numbers), *numbers) + book
 
+    def unpack(body):
+        room, count = struct.unpack_from(head, body)
+        at = struct.calcsize(head)
+        return list(struct.unpack_from(f"<{count}I", body, at)), body[at + 4 * count :], room
 
-def table_call(body):
-    """(rates, book, room) of the table call."""
-    return counted_call("<IH", body)
-
-
-def opening_call(body):
-    """(numbers, book, room) of the call for periods."""
-    return counted_call("<HH", body)
-
-
-def counted_call(head, body):
-    room, count = struct.unpack_from(head, body)
-    at = struct.calcsize(head)
-    return list(struct.unpack_from(f"<{count}I", body, at)), body[at + 4 * count :], room
+    return pack, unpack
 
 
 # ---- Answers -------------------------------------------------------------------------------------
 
 
-def places_text(answer, room):
+def text_itself(answer, job):
+    return answer
+
+
+def places_text(answer, numbers, book, room):
     """What is written of a call that was lent a list; the answer is a refusal's number or the factors."""
     if isinstance(answer, int):
         words = ["refused", answer, ":"] + [PLACE] * room
@@ -74,51 +83,73 @@ def places_text(answer, room):
     return " ".join(map(str, words)) + "\n"
 
 
-def buffer_text(answer, room):
+def buffer_text(answer, numbers, book, room):
     """What is written of a call that was lent a buffer; the answer is a refusal's number or a text."""
     if isinstance(answer, int):
         return f"refused {answer}\n{BYTE * room}\n"
     return f"written {len(answer)}\n{answer.ljust(room, BYTE)}\n"
 
 
-def outcomes(answers, name, grounds):
-    """How many calls are answered, under this name, and how many are refused for each of these grounds."""
-    counts = {name: sum(not isinstance(answer, int) for answer in answers)}
-    return counts | {f"refused {number}": answers.count(number) for number in grounds}
+def line_end(text, at, *parts):
+    return text.index("\n", at) + 1
+
+
+def report_end(text, at, job):
+    """A report ends with the line of its working levels, a refusal with its own."""
+    return line_end(text, at if text.startswith("refused", at) else text.index("\nworking ", at) + 1)
+
+
+def buffer_end(text, at, numbers, book, room):
+    return line_end(text, at) + room + 1
+
+
+# ---- The kinds -----------------------------------------------------------------------------------
+
+JOB = Kind(0, "answer", bytes, one_part, text_itself, report_end)
+LOWEST = Kind(1, "fan_answer", bytes, one_part, text_itself, line_end)
+FACTORS = Kind(2, "factor_call", pack_factors, unpack_factors, places_text, line_end)
+TABLE = Kind(3, "table_call", *counted("<IH"), buffer_text, buffer_end)
+OPENING = Kind(4, "opening_call", *counted("<HH"), places_text, line_end)
+
+table_call = TABLE.unpack  # the Python package's tests take recorded tables apart by this name
+
+
+def answers_of(kind, reference):
+    """The reference as a function from a body to what must be recorded of it."""
+    call = getattr(reference, kind.asks)
+
+    def answer(body):
+        parts = kind.unpack(body)
+        return kind.text(call(*parts), *parts)
+
+    return answer
 
 
 # ---- The two files -------------------------------------------------------------------------------
 
 
+def record(kind, body):
+    return struct.pack("<BI", kind.number, len(body)) + body
+
+
 def read_records(data):
-    """The kind and the body of each record."""
+    """The kind's number and the body of each record."""
     at = 0
     while at < len(data):
-        kind, length = struct.unpack_from("<BI", data, at)
+        number, length = struct.unpack_from("<BI", data, at)
         start, at = at + 5, at + 5 + length
         assert at <= len(data), "the last record is whole"
-        yield kind, data[start:at]
-
-
-def line_end(text, at):
-    return text.index("\n", at) + 1
-
-
-def answer_end(kind, body, text, at):
-    """Where the answer that starts at this place ends."""
-    if kind == JOB and not text.startswith("refused", at):
-        return line_end(text, text.index("\nworking ", at) + 1)
-    if kind == TABLE:
-        return line_end(text, at) + table_call(body)[2] + 1
-    return line_end(text, at)
+        yield number, data[start:at]
 
 
 def read_cases(wanted, stdin=CRATE / "stdin", stdout=CRATE / "stdout"):
     """The body and the answer of each case of one kind. Both files are read to their ends: no case lacks an answer."""
+    kinds = {kind.number: kind for kind in (JOB, LOWEST, FACTORS, TABLE, OPENING)}
     text, at, cases = pathlib.Path(stdout).read_text(encoding="ascii"), 0, []
-    for kind, body in read_records(pathlib.Path(stdin).read_bytes()):
-        start, at = at, answer_end(kind, body, text, at)
-        if kind == wanted:
+    for number, body in read_records(pathlib.Path(stdin).read_bytes()):
+        kind = kinds[number]
+        start, at = at, kind.end(text, at, *kind.unpack(body))
+        if kind is wanted:
             cases.append((body, text[start:at]))
     assert cases and at == len(text), "each case has an answer"
     return cases

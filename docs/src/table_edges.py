@@ -3,49 +3,9 @@ the whole text, or the number of the refusal.
 """
 
 from packing import pack_book, pack_feed, pack_member
+from small_books import G, T1, TOP, daughter, falling, line, parent, split
 
-G = 1 << 40
-K = 249_532_985_160_000  # 0.693147181 times 3.6 * 10^14
-T1 = 2_495_329_851_600  # the document's T': a factor of one half at rate 100
-TOP = (1 << 32) - 1
 HALF = 1 << 35  # an odd number of these, from 5 to 31, is exactly half way between two entries with E-01
-
-
-# ---- Books ---------------------------------------------------------------------------------------
-
-
-def parent(W=1_000, **fields):
-    return pack_book([pack_member(1, **fields)], [], W=W)
-
-
-def daughter(share=100_000, T=1, from_=0, **header):
-    """The parent and one daughter, with one feed."""
-    return pack_book([pack_member(1), pack_member(T, first=1)], [pack_feed(share, from_)], **header)
-
-
-def split(*shares):
-    """A daughter for each share, all fed by the parent."""
-    members = [pack_member(1)] + [pack_member(1, first=k + 1) for k in range(len(shares))]
-    return pack_book(members, [pack_feed(share, 0) for share in shares])
-
-
-def line(*shares):
-    """Each member fed by the one before, with the shares given."""
-    members = [pack_member(1)] + [pack_member(1, first=k + 1) for k in range(len(shares))]
-    return pack_book(members, [pack_feed(share, k) for k, share in enumerate(shares)])
-
-
-def falling(*grains, v=100):
-    """A line of members that have these factors, in grains, at rate v: each is fed wholly by the one before, and its half-life
-    is the shortest that brings the factor down to the wanted one."""
-    half_lives, before = [], G
-    for wanted in grains:
-        half_lives.append((before * K // (wanted + 1) - K) // v + 1)
-        assert 1 <= half_lives[-1] <= 60_000_000_000_000
-        assert before * K // (K + v * half_lives[-1]) == wanted
-        before = wanted
-    members = [pack_member(1)] + [pack_member(T, first=k + 1) for k, T in enumerate(half_lives)]
-    return pack_book(members, [pack_feed(100_000, k) for k in range(len(half_lives))])
 
 
 # ---- Entries -------------------------------------------------------------------------------------

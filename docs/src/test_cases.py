@@ -4,10 +4,8 @@ recorded text.
     test_cases.py
 """
 
-from plain_help import answer_help
 from recorded import JOB
-from tally import say_passed
-from wrong_readings import check_seen, recorded_cases
+from wrong_readings import K_ONE_LESS, SHARES_IN, run
 
 # Texts of the reference that several mistakes are about.
 GROUPS = "groups = (job.child, job.adult)"
@@ -21,7 +19,7 @@ MISTAKES = [
     # The document's own slides towards the wrong side.
     ("a reading rounded down", "return rounded_up(exact.numerator, exact.denominator)", "return int(exact)"),
     ("Low against B for 'below'", "if C * high_sum(job, book) <= B(job)", "if C * low_sum(job, book) <= B(job)"),
-    ("shares into a member limited", "if feed.from_ == i) > 100_000", "if feed in [feeds[k] for k in chains[i]]) > 100_000"),
+    SHARES_IN,
     ("100 for W of every gas", "// (37_000 * W)", "// (37_000 * 1_000)"),
     ("the cap at G left off High", "min(factors[i] + 2 * i, G)", "(factors[i] + 2 * i)"),
     # Balance.
@@ -143,7 +141,7 @@ MISTAKES = [
     ("no divisor gives 0", "return None if divisor == 0", "return 0 if divisor == 0"),
     # Constants moved by one.
     ("434 as 433", "total * 434 * AF", "total * 433 * AF"),
-    ("K one less", "K = 249_532_985_160_000", "K = 249_532_985_159_999"),
+    K_ONE_LESS,
     ("G halved", "G = 2**40", "G = 2**39"),
     ("365 as 366 for risk", "return 365 * X", "return 366 * X"),
     ("365 as 366 for dose", "return 365 * dose_X", "return 366 * dose_X"),
@@ -194,15 +192,5 @@ MISTAKES = [
 ]
 
 
-def ask(reference):
-    return reference.answer
-
-
-def main():
-    answer_help(__doc__)
-    cases = recorded_cases(JOB, ask)
-    say_passed(1 + check_seen(MISTAKES, ask, cases))
-
-
 if __name__ == "__main__":
-    main()
+    run(__doc__, JOB, MISTAKES)

@@ -25,12 +25,12 @@ def factors_form(body):
 
 
 def table_form(body):
-    _, book, _ = recorded.table_call(body)
+    _, book, _ = recorded.TABLE.unpack(body)
     return body[:6] + struct.pack("<H", len(book)) + body[6:]
 
 
 def opening_form(body):
-    _, book, _ = recorded.opening_call(body)
+    _, book, _ = recorded.OPENING.unpack(body)
     return body[:4] + struct.pack("<HH", len(book), 0) + body[4:]
 
 

@@ -1,30 +1,18 @@
 """Are the recorded jobs for the lowest rate sharp? Each wrong reading of R-6 in document 02, or of what it rests on,
-must change some recorded text. And is the reference's halving of the rates right? It must agree with R-6's definition,
-one rate after the other.
+must change some recorded text.
 
     test_lowest.py
 
-The recorded texts come from the definition wherever the answer is among the first rates (reference.FEW), and are made
-here again by halves alone. Jobs with answers beyond them, or with none, are looked at over all 100,001 rates: a few by
-the reference's definition, and more by a second one that is written here and has less to do at each rate. The mistakes
-are tried by halves, in an order that mixes the jobs, refused ones first, each until three texts have changed.
+The mistakes are tried by halves (test_halves.py shows that these find what R-6's definition does), in an order that mixes
+the jobs, refused ones first, each until three texts have changed.
 """
 
-import make_cases
-import reference as ref
 import test_cases
-from plain_help import answer_help
+from draws import Random
 from recorded import LOWEST
-from tally import say_passed
-from wrong_readings import SOURCE, check_seen, recorded_cases
+from wrong_readings import SOURCE, between, in_place_of, run
 
 ENOUGH = 3
-
-
-def between(start, end):
-    """The reference's text from one place up to another."""
-    return SOURCE[SOURCE.index(start) : SOURCE.index(end)]
-
 
 # Texts of the reference that several mistakes are about.
 RATES = "RATES = range(100_001)"
@@ -63,10 +51,7 @@ CHECK_16 = "    refuse_if(chains[0] != [] or any(chain == [] for chain in chains
 CHECK_17 = "    for i, chain in enumerate(chains):\n        refuse_if(any(feeds[number].from_ >= i for number in chain), 17)\n"
 CHECK_18 = between("    for i in range(n):\n        refuse_if(sum(feed.share", "    return Book(n, W")
 
-
-def in_order(*checks):
-    """The job's checks in another order, or with others among them."""
-    return OF_THE_JOB, "".join(checks)
+in_order = in_place_of(OF_THE_JOB)
 
 
 def swapped(one, other):
@@ -266,75 +251,18 @@ ABOVE_ALREADY = {"Low against B for 'below'", "the cap at G left off High", "'be
 MISTAKES = OWN_MISTAKES + [row for row in test_cases.MISTAKES if row[0] not in NOT_SHOWN | ABOVE_ALREADY]
 
 
-# ---- Halves against the definition ---------------------------------------------------------------
-
-
-def by_halves(data):
-    job, C, book = ref.read_all(data)
-    return ref.first_below_by_halves(ref.RATES, job, book, C)
-
-
-def one_by_one(data):
-    """The definition once more. What does not depend on the rate is made once: q and B."""
-    job, C, book = ref.read_all(data)
-    weights = [C * ref.q(job, member) for member in book.members]
-    most = ref.B(job)
-    for v in range(100_001):
-        factors = ref.reported_factors(v, book)
-        if sum(q * min(x + 2 * i, ref.G) for i, (q, x) in enumerate(zip(weights, factors))) <= most:
-            return v
-    return None
-
-
-def definition(data):
-    job, C, book = ref.read_all(data)
-    return ref.first_below(ref.RATES, job, book, C)
-
-
-def check_halves(cases):
-    """One rate after the other, for jobs that the recorder has looked at by halves: mostly short chains, and some long ones."""
-    far = [data for data, text in mixed(cases)
-           if text == "rate none\n" or text.startswith("rate") and int(text.split()[1]) >= ref.FEW]
-    short, long = [data for data in far if data[48] in (2, 3)], [data for data in far if data[48] > 3]
-    for data in short[:16] + long[:2]:
-        assert one_by_one(data) == by_halves(data)
-    for data in short[16:17]:
-        assert definition(data) == by_halves(data)
-    print(f"{len(short[:17] + long[:2])} jobs looked at over all the rates: the halves agree")
-
-
-def check_fall(jobs):
-    """What the halves rest on: from one rate to the next no reported factor rises, and no verdict gets worse."""
-    order = {"below": 0, "close": 1, "above": 2}
-    rng = make_cases.Random(0x46616C6C)
-    for data in jobs:
-        job, C, book = ref.read_all(data)
-        v = rng.spread(0, 99_999)
-        assert all(a >= b for a, b in zip(ref.reported_factors(v, book), ref.reported_factors(v + 1, book)))
-        assert order[ref.verdict_at(v, job, book, C)] >= order[ref.verdict_at(v + 1, job, book, C)]
-
-
-# ---- Mistakes ------------------------------------------------------------------------------------
+def prepare(reference):
+    """By halves alone."""
+    reference.FEW = 0
 
 
 def mixed(items):
-    return make_cases.Random(0x4D69786564).shuffled(items)
+    return Random(0x4D69786564).shuffled(items)
 
 
-def ask(reference):
-    """By halves alone."""
-    reference.FEW = 0
-    return reference.fan_answer
-
-
-def main():
-    answer_help(__doc__)
-    cases = recorded_cases(LOWEST, ask)
-    check_halves(cases)
-    check_fall([data for data, text in cases if text.startswith("rate")])
-    refused_first = sorted(mixed(cases), key=lambda case: case[1].startswith("rate"))
-    say_passed(3 + check_seen(MISTAKES, ask, refused_first, ENOUGH))
+def refused_first(cases):
+    return sorted(mixed(cases), key=lambda case: case[1].startswith("rate"))
 
 
 if __name__ == "__main__":
-    main()
+    run(__doc__, LOWEST, MISTAKES, prepare, refused_first, ENOUGH)

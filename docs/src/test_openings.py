@@ -5,10 +5,9 @@
 The few runs of a day and more are made once, with the right reference; the mistakes show without them.
 """
 
-from plain_help import answer_help
-from recorded import OPENING, opening_call, places_text
-from tally import say_passed
-from wrong_readings import SOURCE, check_seen, recorded_cases
+from recorded import OPENING
+from wrong_readings import (K_ONE_LESS, RATE_LIMITS, SHARES_IN, SHARES_OUT_FREE, SOURCE, between, book_but_before, in_place_of,
+                            run)
 
 # Texts of the reference that several mistakes are about.
 START = "return [G] + [0] * (book.n - 1)"
@@ -35,12 +34,9 @@ CALL = CHECK_3 + CHECK_22 + BOOK + CHECK_19
 RETURN = "    return opening_factors(in_turn(numbers), book)\n"
 
 # From the first line of a minute to the end of a period.
-STEPS = SOURCE[SOURCE.index(PARENT) : SOURCE.index("def opening_factors")]
+STEPS = between(PARENT, "def opening_factors")
 
-
-def in_order(*checks):
-    """The call's checks in another order, or with others among them."""
-    return CALL, "".join(checks)
+in_order = in_place_of(CALL)
 
 
 def indented(lines):
@@ -56,9 +52,7 @@ def after_ground(ground):
 
 def room_before(ground):
     """19 before one ground of the book."""
-    guarded = ("        try:\n            book = read_book(book_bytes)\n        except Refused as refusal:\n"
-               f"            refuse_if(refusal.number >= {ground} and room < book_bytes[0], 19)\n            raise\n")
-    return in_order(CHECK_3, CHECK_22, guarded, CHECK_19)
+    return in_order(CHECK_3, CHECK_22, book_but_before(ground, "room < book_bytes[0], 19"), CHECK_19)
 
 
 def finer(bits):
@@ -148,7 +142,7 @@ MISTAKES = [
     ("a step forward from the old factor", f"({ABOVE}) // ({BELOW})",
      "max(0, old[i] + (K * F - (K + v * T) * old[i]) // (6_000 * T))"),
     ("decay first, then air", f"({ABOVE}) // ({BELOW})", f"({ABOVE}) // (K + 6_000 * T) * 6_000 // (6_000 + v)"),
-    ("K one less", "K = 249_532_985_160_000", "K = 249_532_985_159_999"),
+    K_ONE_LESS,
     # The step: rounding, and limbs too short.
     ("rounded up", STEP, f"new.append(-(-({ABOVE}) // ({BELOW})))\n    return new\n"),
     ("rounded to the nearest", STEP, f"new.append((2 * ({ABOVE}) + ({BELOW})) // (2 * ({BELOW})))\n    return new\n"),
@@ -248,8 +242,7 @@ MISTAKES = [
      "    refuse_if(len(numbers) % 2 == 1 and len(numbers) > 64, 22)\n"),
     ("an even list refused", ODD, "    refuse_if(len(numbers) % 2 == 0, 22)\n"),
     # 3: which numbers.
-    ("a rate of 100,000 refused", "refuse_if(v > 100_000, 3)", "refuse_if(v >= 100_000, 3)"),
-    ("a rate of 100,001 taken", "refuse_if(v > 100_000, 3)", "refuse_if(v > 100_001, 3)"),
+    *RATE_LIMITS,
     ("an unpaired last number not checked for 3", EACH_RATE, "        for rate, _ in in_turn(numbers):\n"),
     ("minutes checked as rates", EACH_RATE, "        for rate in numbers:\n"),
     ("minutes checked for the rates", EACH_RATE, "        for rate in numbers[1::2]:\n"),
@@ -306,9 +299,8 @@ MISTAKES = [
     ("19 by the count of periods",
      *in_order(CHECK_3, CHECK_22, BOOK, CHECK_19.replace("book.n", "len(in_turn(numbers))"))),
     ("21 for 19", *in_order(CHECK_3, CHECK_22, BOOK, CHECK_19.replace("19", "21"))),
-    ("18 not made", "if feed.from_ == i) > 100_000", "if feed.from_ == i) > 10**9"),
-    ("shares into a member limited", "if feed.from_ == i) > 100_000",
-     "if feed in [feeds[k] for k in chains[i]]) > 100_000"),
+    SHARES_OUT_FREE,
+    SHARES_IN,
     # What goes out.
     ("the parent left out", RETURN, RETURN.rstrip() + "[1:]\n"),
     ("the last member left out", RETURN, RETURN.rstrip() + "[:-1] or [G]\n"),
@@ -336,23 +328,15 @@ def impatient(later):
     return bounded
 
 
-def ask(reference):
+def prepare(reference):
     reference.minutes_later = impatient(reference.minutes_later)
 
-    def answer(body):
-        numbers, book, room = opening_call(body)
-        return places_text(reference.opening_call(numbers, book, room), room)
 
-    return answer
-
-
-def main():
-    answer_help(__doc__)
-    cases = recorded_cases(OPENING, ask)
-    quick = [(body, right) for body, right in cases if is_quick(*opening_call(body))]
-    print(f"{len(cases) - len(quick)} of {len(cases)} openings are long: no wrong reading is tried on them")
-    say_passed(1 + check_seen(MISTAKES, ask, quick))
+def quick(cases):
+    chosen = [(body, right) for body, right in cases if is_quick(*OPENING.unpack(body))]
+    print(f"{len(cases) - len(chosen)} of {len(cases)} openings are long: no wrong reading is tried on them")
+    return chosen
 
 
 if __name__ == "__main__":
-    main()
+    run(__doc__, OPENING, MISTAKES, prepare, quick)

@@ -15,7 +15,7 @@ import pathlib
 import re
 import struct
 
-import make_cases
+import draws
 import reference as ref
 from packing import bits, pack_book, pack_feed, pack_job, pack_member
 from plain_help import answer_help
@@ -242,11 +242,11 @@ def random_hours(rng):
 
 def random_in_hours(rng):
     """A good case and its two groups in whole hours; the case itself is restated in quarters."""
-    make = rng.one_of((make_cases.random_case, make_cases.thin_case, make_cases.halved_case, make_cases.parent_case))
+    make = rng.one_of((draws.random_case, draws.thin_case, draws.halved_case, draws.parent_case))
     case = make(rng)
     groups = rng.one_of(((0, 0, 0, 0), random_hours(rng))), random_hours(rng)
     if rng.between(0, 3) == 0:  # shares that are halves
-        groups = [(EF, ED, ET, IRA) for (EF, _, ET, IRA), ED in zip(groups, rng.one_of(make_cases.HALVES))]
+        groups = [(EF, ED, ET, IRA) for (EF, _, ET, IRA), ED in zip(groups, rng.one_of(draws.HALVES))]
     case.job["child"], case.job["adult"] = map(in_quarters, groups)
     return case, groups
 
@@ -263,7 +263,7 @@ def test_whole_hours_unchanged():
     For risk that is what document 01's formulas give. For dose they no longer hold: there it is what R-2's formulas give with
     ET in whole hours and B without the 4.
     """
-    rng = make_cases.Random(0x5175617274657273)
+    rng = draws.Random(0x5175617274657273)
     seen = {}
     while sum(seen.values()) < 4_000:
         case, groups = random_in_hours(rng)
@@ -352,7 +352,7 @@ def test_entry_at_boundaries():
 
 def test_entry_at_large():
     """Drawn at large, and on both sides of the middle of two neighbours drawn at large."""
-    rng = make_cases.Random(0x456E7472696573)
+    rng = draws.Random(0x456E7472696573)
     drawn = {rng.spread(0, G) for _ in range(4_000)}
     for _ in range(4_000):
         place = bisect.bisect(VALUES, rng.spread(1, G) * 10**18 // G)
@@ -378,7 +378,7 @@ def example_book(gas):
 
 
 def random_book(rng, n):
-    return ref.read_book(make_cases.random_case(rng, n).data()[48:])
+    return ref.read_book(draws.random_case(rng, n).data()[48:])
 
 
 def line_book(*half_lives):
@@ -422,7 +422,7 @@ def test_minutes_without_rounding():
 
 def test_promise():
     """At one rate, over every minute there is: until nothing changes, which is for ever."""
-    rng = make_cases.Random(0x4D696E75746573)
+    rng = draws.Random(0x4D696E75746573)
     books = [example_book(gas) for gas in GASES] + [random_book(rng, n) for n in (1, 2, 3, 4, 5, 6, 16)]
     for book in books + [line_book(1, 1, 1), line_book(60_000_000_000_000, 1, 60_000_000_000_000)]:
         for v in (0, 1, 18, 60, 100, 1_000, 100_000, rng.spread(0, 100_000)):
@@ -486,10 +486,10 @@ def test_change_of_rate():
 def test_periods_joined():
     """One rate in two periods is one period; and a list of periods lies between its lowest rate and its highest, minute for
     minute: less air in a minute never gives a factor that is lower then or later."""
-    rng = make_cases.Random(0x506572696F6473)
+    rng = draws.Random(0x506572696F6473)
     for _ in range(150):
         book = random_book(rng, rng.between(2, 6))
-        periods = [(make_cases.random_rate(rng), rng.between(1, 40)) for _ in range(rng.between(2, 5))]
+        periods = [(draws.random_rate(rng), rng.between(1, 40)) for _ in range(rng.between(2, 5))]
         v, minutes = periods[0]
         cut = rng.between(1, minutes)
         in_two = [(v, cut), (v, minutes - cut)] if cut < minutes else [(v, cut)]
@@ -591,9 +591,9 @@ def test_lowest_ignores_own_rate():
 
 def test_halves():
     """The halves against the definition, on any rates in rising order, and on short lists of them."""
-    rng = make_cases.Random(0x48616C766573)
+    rng = draws.Random(0x48616C766573)
     for _ in range(150):
-        job, C, book = ref.read_all(make_cases.random_case(rng, rng.between(1, 5)).data())
+        job, C, book = ref.read_all(draws.random_case(rng, rng.between(1, 5)).data())
         job = job._replace(target=C * ref.high_sum(job._replace(v=rng.spread(0, 300)), book) // ref.B(job._replace(target=1)))
         start, length = rng.spread(0, 300), rng.between(0, 60)
         for rates in (range(start, start + length), range(300), range(0, 100_001, 1_000)):

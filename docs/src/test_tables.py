@@ -5,10 +5,8 @@
 
 import functools
 
-from plain_help import answer_help
-from recorded import TABLE, buffer_text, table_call
-from tally import say_passed
-from wrong_readings import check_seen, recorded_cases
+from recorded import TABLE
+from wrong_readings import K_ONE_LESS, RATE_LIMITS, SHARES_OUT_FREE, book_but_before, in_place_of, run
 
 # Texts of the reference that several mistakes are about.
 ZERO = 'return "0.000E+00"'
@@ -27,18 +25,12 @@ CHECK_20 = "        refuse_if(not 1 <= len(rates) <= 200, 20)\n"
 TEXT = "        text = table_text(rates, book)\n"
 CHECK_21 = "        refuse_if(len(text) > room, 21)\n"
 CALL = CHECK_3 + BOOK + CHECK_20 + TEXT + CHECK_21
-
-
-def in_order(*checks):
-    """The call's checks in another order, or with others among them."""
-    return CALL, "".join(checks)
+in_order = in_place_of(CALL)
 
 
 def before(ground, check):
-    """A check made before one ground of the book: the later grounds of the book come after it."""
-    guarded = ("        try:\n            book = read_book(book_bytes)\n        except Refused as refusal:\n"
-               f"            refuse_if(refusal.number >= {ground} and {check})\n            raise\n")
-    return in_order(CHECK_3, guarded, CHECK_20, TEXT, CHECK_21)
+    """A check of the call made before one ground of the book."""
+    return in_order(CHECK_3, book_but_before(ground, check), CHECK_20, TEXT, CHECK_21)
 
 
 WRONG_COUNT = "not 1 <= len(rates) <= 200, 20"
@@ -111,7 +103,7 @@ MISTAKES = [
     ("factors with the rate in air changes", FACTORS, "entry(x) for x in reported_factors(100 * v, book)"),
     ("one rounding of the factor, not two", "F = inflow // 100_000", "F = Fraction(inflow, 100_000)"),
     ("a factor rounded up", "F * K // (K + v * book.members[i].T)", "-(-F * K // (K + v * book.members[i].T))"),
-    ("K one less", "K = 249_532_985_160_000", "K = 249_532_985_159_999"),
+    K_ONE_LESS,
     # The rate, the line and the text.
     ("the rate in air changes", "[str(v)] +", "[f'{v // 100}.{v % 100:02d}'] +"),
     ("the rate with leading zeros", "[str(v)] +", "[f'{v:06d}'] +"),
@@ -144,8 +136,7 @@ MISTAKES = [
     ("the number of rates in one byte", "not 1 <= len(rates) <= 200, 20", "not 1 <= len(rates) % 256 <= 200, 20"),
     ("over 200 cut to 200", CHECK_20, "        refuse_if(not rates, 20)\n        rates = rates[:200]\n"),
     ("20 for 3", CHECK_3, "        refuse_if(any(v > 100_000 for v in rates), 20)\n"),
-    ("a rate of 100,000 refused", "refuse_if(v > 100_000, 3)", "refuse_if(v >= 100_000, 3)"),
-    ("a rate of 100,001 taken", "refuse_if(v > 100_000, 3)", "refuse_if(v > 100_001, 3)"),
+    *RATE_LIMITS,
     ("the rate in 16 bits checked", "            check_rate(v)\n", "            check_rate(v % 65_536)\n"),
     ("only the first rate checked", "for v in rates:", "for v in rates[:1]:"),
     ("only the last rate checked", "for v in rates:", "for v in rates[-1:]:"),
@@ -167,7 +158,7 @@ MISTAKES = [
     ("21 as 19", "> room, 21)", "> room, 19)"),
     ("21 as 20", "> room, 21)", "> room, 20)"),
     ("19 too: a buffer shorter than n", CHECK_20, "        refuse_if(room < book.n, 19)\n" + CHECK_20),
-    ("18 not made", "if feed.from_ == i) > 100_000", "if feed.from_ == i) > 10**9"),
+    SHARES_OUT_FREE,
     # The lent buffer.
     ("21 at the exact length", "len(text) > room, 21", "len(text) >= room, 21"),
     ("one byte over the buffer taken", "len(text) > room, 21", "len(text) > room + 1, 21"),
@@ -183,21 +174,9 @@ MISTAKES = [
 ]
 
 
-def ask(reference):
+def prepare(reference):
     reference.entry = functools.cache(reference.entry)  # the same factors come up often
-
-    def answer(body):
-        rates, book, room = table_call(body)
-        return buffer_text(reference.table_call(rates, book, room), room)
-
-    return answer
-
-
-def main():
-    answer_help(__doc__)
-    cases = recorded_cases(TABLE, ask)
-    say_passed(1 + check_seen(MISTAKES, ask, cases))
 
 
 if __name__ == "__main__":
-    main()
+    run(__doc__, TABLE, MISTAKES, prepare)
