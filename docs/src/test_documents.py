@@ -1,5 +1,5 @@
 """The documents: the README and the notes are as short as they are to be, each link leads somewhere, the page on refusals has the
-sentences of the one list, and the page on openings has the grains that are left at rest.
+sentences of the one list, that on the parts a row for each crate, and that on openings the grains that are left at rest.
 
     test_documents.py
 """
@@ -71,6 +71,13 @@ def test_refusals():
     """The page has the table of the one list, whole and as it is; its numbers have no gap."""
     assert grounds.table() in text_of(ROOT / "docs" / "REFUSALS.md"), grounds.table()
     assert list(grounds.GROUNDS) == list(range(1, len(grounds.GROUNDS) + 1))
+
+
+def test_crates():
+    """The page on the parts has a row for each crate, and for nothing else."""
+    listed = [line.split(":")[0].split()[0] for line in text_of(ROOT / "crates.txt").splitlines() if line and not line.startswith("#")]
+    rows = [line.split("|")[1] for line in text_of(ROOT / "docs" / "CRATES.md").splitlines() if line.startswith("| `")]
+    assert sorted(name for row in rows for name in re.findall(r"`(\w+)`", row)) == sorted(listed)
 
 
 def told(page):
