@@ -1,5 +1,6 @@
-"""The documents: the README and the notes are as short as they are to be, each link leads somewhere, the page on refusals has the
-sentences of the one list, that on the parts a row for each crate, and that on openings the grains that are left at rest.
+"""The documents: the README and the notes are as short as they are to be, each link leads somewhere, the page on refusals has
+the sentences of the one list, that on the parts a row for each crate, that on openings the grains that are left at rest, and
+the decisions no name that is gone.
 
     test_documents.py
 """
@@ -78,6 +79,23 @@ def test_crates():
     listed = [line.split(":")[0].split()[0] for line in text_of(ROOT / "crates.txt").splitlines() if line and not line.startswith("#")]
     rows = [line.split("|")[1] for line in text_of(ROOT / "docs" / "CRATES.md").splitlines() if line.startswith("| `")]
     assert sorted(name for row in rows for name in re.findall(r"`(\w+)`", row)) == sorted(listed)
+
+
+def words_of_the_tree():
+    """Every name in the code, the definitions, the proofs, the tools and the tests."""
+    names = set()
+    for folder in ("crates", "bindings", "tools", "examples", "docs/src", ".ci"):
+        for path in (ROOT / folder).rglob("*"):
+            if path.is_file() and "out" not in path.parts and path.suffix not in (".job", ".book"):
+                names.update(re.findall(r"\w+", path.read_text(encoding="utf-8", errors="replace")))
+    return names
+
+
+def test_nothing_stale():
+    """Every name that the decisions speak of is there."""
+    quoted = re.findall(r"`([^`]+)`", text_of(ROOT / "docs" / "DECISIONS.md"))
+    names = {name for text in quoted for name in re.findall(r"[A-Za-z]\w{3,}", text)}
+    assert names and not names - words_of_the_tree(), names - words_of_the_tree()
 
 
 def told(page):
