@@ -229,7 +229,8 @@ def is_in(line, text):
     return line in text
 
 
-RECORDER = Recorder(JOB, 10, sorts, job_edges.edges, all_jobs, 0x4A656C6D6F72616E, is_in, check, typed_last=True)
+RECORDER = Recorder(kind=JOB, least=10, sorts=sorts, typed=job_edges.edges, agrees=is_in, typed_last=True, drawn=all_jobs,
+                    seed=0x4A656C6D6F72616E, check=check)
 
 
 if __name__ == "__main__":

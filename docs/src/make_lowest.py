@@ -323,7 +323,7 @@ def check(calls, texts):
         ref.check_lowest(data, text)
 
 
-RECORDER = Recorder(LOWEST, 4, sorts, typed_jobs, all_jobs, 0x4C6F77657374, check=check)
+RECORDER = Recorder(kind=LOWEST, least=4, sorts=sorts, typed=typed_jobs, drawn=all_jobs, seed=0x4C6F77657374, check=check)
 
 
 if __name__ == "__main__":

@@ -227,7 +227,8 @@ def sorts(openings, answers):
     return outcomes(answers, "filled", (3, *range(9, 20), 22)) | kinds_of_periods(openings, answers)
 
 
-RECORDER = Recorder(OPENING, 5, sorts, opening_edges.edges, drawn_openings, 0x4F70656E696E6773, check=check_promise)
+RECORDER = Recorder(kind=OPENING, least=5, sorts=sorts, typed=opening_edges.edges, drawn=drawn_openings,
+                    seed=0x4F70656E696E6773, check=check_promise)
 
 
 if __name__ == "__main__":

@@ -171,7 +171,8 @@ def check(tables, answers):
     assert halves(tables, answers)["different halves"] == 18
 
 
-RECORDER = Recorder(TABLE, 3, sorts, table_edges.edges, drawn_tables, 0x5461626C65733A33, check=check)
+RECORDER = Recorder(kind=TABLE, least=3, sorts=sorts, typed=table_edges.edges, drawn=drawn_tables, seed=0x5461626C65733A33,
+                    check=check)
 
 
 if __name__ == "__main__":
