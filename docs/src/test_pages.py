@@ -55,8 +55,9 @@ def is_ready(command):
 
 def written(command, folder):
     """The lines that a command writes, as a page shows them."""
-    said = subprocess.run(command, shell=True, cwd=folder, stdin=subprocess.DEVNULL, stdout=subprocess.PIPE, stderr=subprocess.STDOUT,
-                          env=os.environ | {"PYTHONDONTWRITEBYTECODE": "1"}, timeout=300, check=False)
+    env = os.environ | {"PYTHONDONTWRITEBYTECODE": "1", "PYTHONUTF8": "1"}
+    said = subprocess.run(command, shell=True, cwd=folder, env=env, stdin=subprocess.DEVNULL, stdout=subprocess.PIPE,
+                          stderr=subprocess.STDOUT, timeout=300, check=False)
     return [INDENT + line + "\n" for line in said.stdout.decode().splitlines()]
 
 
