@@ -91,11 +91,22 @@ def words_of_the_tree():
     return names
 
 
+def names_in(page):
+    """The names that a page quotes; what a check prints, with its equals signs, and its sums are none."""
+    quoted = [text for text in re.findall(r"`([^`]+)`", text_of(ROOT / "docs" / page)) if "=" not in text]
+    return {name for text in quoted for name in re.findall(r"[A-Za-z]\w{3,}", text) if not re.fullmatch(r"[0-9a-f]{16}", name)}
+
+
 def test_nothing_stale():
-    """Every name that the decisions speak of is there."""
-    quoted = re.findall(r"`([^`]+)`", text_of(ROOT / "docs" / "DECISIONS.md"))
-    names = {name for text in quoted for name in re.findall(r"[A-Za-z]\w{3,}", text)}
-    assert names and not names - words_of_the_tree(), names - words_of_the_tree()
+    """Every name that the decisions and the page on checking speak of is there."""
+    there = words_of_the_tree()
+    for page in ("DECISIONS.md", "CHECKING.md"):
+        assert names_in(page) and not names_in(page) - there, (page, names_in(page) - there)
+
+
+def test_scope_of_the_parent():
+    """Demand 3 in our own words keeps what document 01 has of the parent's factor: there is no "less than 2i" for it."""
+    assert "the parent's equals it" in " ".join(text_of(ROOT / "docs" / "SCOPE.md").split())
 
 
 def told(page):
