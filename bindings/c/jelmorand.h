@@ -24,6 +24,15 @@
 extern "C" {
 #endif
 
+/* The version of this header: major * 1,000,000 + minor * 1,000 + patch, so that 7,000 is 0.7.0. */
+#define JELMORAND_VERSION 7000
+
+/* The version of the library, in the same form. What this header says holds where both have the same major and minor number and the
+ * library's patch number is not lower. Ask once, before any other call, where the library is a shared object:
+ *
+ *     if (jelmorand_version() / 1000 != JELMORAND_VERSION / 1000 || jelmorand_version() < JELMORAND_VERSION) */
+int64_t jelmorand_version(void);
+
 /* The most members that a book has, so the most places that jelmorand_factors and jelmorand_factors_after write. */
 #define JELMORAND_MAX_MEMBERS 16
 
@@ -45,55 +54,65 @@ extern "C" {
 /* What jelmorand_lowest_rate answers where no rate gives 'below': one more than the highest rate, so no rate itself. */
 #define JELMORAND_NO_RATE 100001
 
-/* The grounds for refusal, in the order in which they are checked, save that 22 comes straight after 3. A factor call makes
- * checks 3 and 9 to 19, a job 1 to 18, a table 3, 9 to 18, 20 and 21, the factors after periods 3, 22 and 9 to 19, the lowest rate
- * of a job 1 to 18. The Rust and Python wrappers say the same sentences. */
-enum jelmorand_refusal {
-    /* the job has fewer than 48 bytes */
-    JELMORAND_JOB_TOO_SHORT = 1,
-    /* kind, medium or unit is not a listed value, or the job's zero byte is not zero */
-    JELMORAND_CODE_UNKNOWN = 2,
-    /* the rate exceeds 100,000 */
-    JELMORAND_RATE_TOO_HIGH = 3,
-    /* the target exceeds 1,000,000,000 */
-    JELMORAND_TARGET_TOO_HIGH = 4,
-    /* the attenuation exceeds 1,000,000, or is not 1,000,000 for indoor air */
-    JELMORAND_ATTENUATION_OUT_OF_RANGE = 5,
-    /* a group has days over 366, years over 100, quarter hours over 96 or breathing over 100, or both groups have 0 years */
-    JELMORAND_EXPOSURE_OUT_OF_RANGE = 6,
-    /* value or uncertainty has its sign bit set (minus zero too), is infinite or is not a number */
-    JELMORAND_READING_UNUSABLE = 7,
-    /* a converted part, their sum or the concentration exceeds 4,000,000,000 mBq/m3 */
-    JELMORAND_CONCENTRATION_TOO_HIGH = 8,
-    /* the book has fewer than 8 bytes */
-    JELMORAND_BOOK_TOO_SHORT = 9,
-    /* the book does not have 1 to 16 members, or has over 64 feeds */
-    JELMORAND_COUNT_OUT_OF_RANGE = 10,
-    /* the book is not 8 bytes long with 32 more a member and 8 more a feed */
-    JELMORAND_BOOK_LENGTH_WRONG = 11,
-    /* the working level divisor is 0, or one of the book's zero bytes is not zero */
-    JELMORAND_HEADER_INVALID = 12,
-    /* a member's half-life is 0 or too long, or one of its five numbers exceeds 4,000,000,000 */
-    JELMORAND_MEMBER_OUT_OF_RANGE = 13,
-    /* a share is not 1 to 100,000, a from is not a member, or a first or next is not a feed */
-    JELMORAND_FEED_OUT_OF_RANGE = 14,
-    /* a feed comes up twice along the members' feeds, or never */
-    JELMORAND_FEED_NOT_ONCE = 15,
-    /* the parent gas has a feed, or a later member has none */
-    JELMORAND_FEEDS_MISPLACED = 16,
-    /* a feed does not come from a lower member than the one it feeds */
-    JELMORAND_FEED_NOT_FROM_LOWER = 17,
-    /* the shares out of one member add up to over 100,000 */
-    JELMORAND_SHARES_OUT_TOO_HIGH = 18,
-    /* the lent list has fewer places than the book has members */
-    JELMORAND_LIST_TOO_SHORT = 19,
-    /* the list of rates is empty or has over 200 */
-    JELMORAND_RATE_COUNT_OUT_OF_RANGE = 20,
-    /* the table is longer than the lent buffer */
-    JELMORAND_BUFFER_TOO_SHORT = 21,
-    /* the list of periods has an odd length, or does not have 1 to 32 periods of 1 to 1,440 minutes each */
-    JELMORAND_PERIODS_OUT_OF_RANGE = 22
-};
+/* The grounds for refusal: number, name and sentence, in the order in which they are checked, save that 22 comes straight after 3.
+ * A factor call makes checks 3 and 9 to 19, a job 1 to 18, a table 3, 9 to 18, 20 and 21, the factors after periods 3, 22 and 9 to
+ * 19, the lowest rate of a job 1 to 18. A later version of the library may have more: a number that is not in this list is a refusal
+ * all the same. */
+#define JELMORAND_REFUSALS(GROUND) \
+    GROUND(1, JELMORAND_JOB_TOO_SHORT, \
+           "the job has fewer than 48 bytes") \
+    GROUND(2, JELMORAND_CODE_UNKNOWN, \
+           "kind, medium or unit is not a listed value, or the job's zero byte is not zero") \
+    GROUND(3, JELMORAND_RATE_TOO_HIGH, \
+           "the rate exceeds 100,000") \
+    GROUND(4, JELMORAND_TARGET_TOO_HIGH, \
+           "the target exceeds 1,000,000,000") \
+    GROUND(5, JELMORAND_ATTENUATION_OUT_OF_RANGE, \
+           "the attenuation exceeds 1,000,000, or is not 1,000,000 for indoor air") \
+    GROUND(6, JELMORAND_EXPOSURE_OUT_OF_RANGE, \
+           "a group has days over 366, years over 100, quarter hours over 96 or breathing over 100, or both groups have 0 years") \
+    GROUND(7, JELMORAND_READING_UNUSABLE, \
+           "value or uncertainty has its sign bit set (minus zero too), is infinite or is not a number") \
+    GROUND(8, JELMORAND_CONCENTRATION_TOO_HIGH, \
+           "a converted part, their sum or the concentration exceeds 4,000,000,000 mBq/m3") \
+    GROUND(9, JELMORAND_BOOK_TOO_SHORT, \
+           "the book has fewer than 8 bytes") \
+    GROUND(10, JELMORAND_COUNT_OUT_OF_RANGE, \
+           "the book does not have 1 to 16 members, or has over 64 feeds") \
+    GROUND(11, JELMORAND_BOOK_LENGTH_WRONG, \
+           "the book is not 8 bytes long with 32 more a member and 8 more a feed") \
+    GROUND(12, JELMORAND_DIVISOR_OR_ZEROS_WRONG, \
+           "the working level divisor is 0, or one of the book's zero bytes is not zero") \
+    GROUND(13, JELMORAND_MEMBER_OUT_OF_RANGE, \
+           "a member's half-life is 0 or too long, or one of its five numbers exceeds 4,000,000,000") \
+    GROUND(14, JELMORAND_FEED_OUT_OF_RANGE, \
+           "a share is not 1 to 100,000, a from is not a member, or a first or next is not a feed") \
+    GROUND(15, JELMORAND_FEED_NOT_ONCE, \
+           "a feed comes up twice along the members' feeds, or never") \
+    GROUND(16, JELMORAND_FEEDS_MISPLACED, \
+           "the parent gas has a feed, or a later member has none") \
+    GROUND(17, JELMORAND_FEED_NOT_FROM_LOWER, \
+           "a feed does not come from a lower member than the one it feeds") \
+    GROUND(18, JELMORAND_SHARES_OUT_TOO_HIGH, \
+           "the shares out of one member add up to over 100,000") \
+    GROUND(19, JELMORAND_LIST_TOO_SHORT, \
+           "the lent list has fewer places than the book has members") \
+    GROUND(20, JELMORAND_RATE_COUNT_OUT_OF_RANGE, \
+           "the list of rates is empty or has over 200") \
+    GROUND(21, JELMORAND_BUFFER_TOO_SHORT, \
+           "the text is longer than the lent buffer") \
+    GROUND(22, JELMORAND_PERIODS_OUT_OF_RANGE, \
+           "the list of periods has an odd length, or does not have 1 to 32 periods of 1 to 1,440 minutes each")
+
+/* The names with their numbers. */
+#define JELMORAND_NAMED(number, name, sentence) name = number,
+enum jelmorand_refusal { JELMORAND_REFUSALS(JELMORAND_NAMED) };
+#undef JELMORAND_NAMED
+
+/* The sentence of a refusal, without a full stop, from the list above. `number` is not negative, so it is minus the answer. A number
+ * that is not in the list has a sentence too, which says so. The function is in refusals.c beside this header, and in the libraries
+ * that bindings/install makes. */
+const char *jelmorand_refusal_sentence(int64_t number);
 
 /* The factor of every member of a chain book at one ventilation rate.
  *

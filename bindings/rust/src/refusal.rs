@@ -2,25 +2,43 @@
 use core::error::Error;
 use core::fmt;
 
-/// Lists the grounds once: the enum with its documentation, the list of all, and each one's sentence.
+/// Lists the grounds once: the enum with its documentation, the list of all, and each one's number and sentence.
 macro_rules! grounds {
     ($($name:ident = $number:literal, $sentence:literal;)*) => {
         /// Why a call is refused, in checking order save that 22 comes straight after 3, each with its number.
         #[derive(Clone, Copy, Debug, PartialEq, Eq, Hash)]
         #[non_exhaustive]
-        #[repr(u32)]
         pub enum Refusal {
-            $(#[doc = concat!($number, ": ", $sentence, ".")] $name = $number,)*
+            $(#[doc = concat!($number, ": ", $sentence, ".")] $name,)*
+            /// A ground with this number, which a later version of the library has and this one of the package does not know.
+            Other(u32),
         }
 
         impl Refusal {
-            /// Every ground, by number.
+            /// Every ground that is known, by number.
             pub const ALL: &'static [Refusal] = &[$(Refusal::$name),*];
+
+            /// The ground's number, which a refused report prints.
+            pub fn number(self) -> u32 {
+                match self {
+                    $(Refusal::$name => $number,)*
+                    Refusal::Other(number) => number,
+                }
+            }
+
+            /// The ground with this number.
+            pub fn from_number(number: u32) -> Refusal {
+                match number {
+                    $($number => Refusal::$name,)*
+                    _ => Refusal::Other(number),
+                }
+            }
 
             /// What is wrong, as the C header says it.
             pub fn sentence(self) -> &'static str {
                 match self {
                     $(Refusal::$name => $sentence,)*
+                    Refusal::Other(_) => "a ground that this version does not know",
                 }
             }
         }
@@ -39,7 +57,7 @@ grounds! {
     BookTooShort = 9, "the book has fewer than 8 bytes";
     CountOutOfRange = 10, "the book does not have 1 to 16 members, or has over 64 feeds";
     BookLengthWrong = 11, "the book is not 8 bytes long with 32 more a member and 8 more a feed";
-    HeaderInvalid = 12, "the working level divisor is 0, or one of the book's zero bytes is not zero";
+    DivisorOrZerosWrong = 12, "the working level divisor is 0, or one of the book's zero bytes is not zero";
     MemberOutOfRange = 13, "a member's half-life is 0 or too long, or one of its five numbers exceeds 4,000,000,000";
     FeedOutOfRange = 14, "a share is not 1 to 100,000, a from is not a member, or a first or next is not a feed";
     FeedNotOnce = 15, "a feed comes up twice along the members' feeds, or never";
@@ -48,25 +66,17 @@ grounds! {
     SharesOutTooHigh = 18, "the shares out of one member add up to over 100,000";
     ListTooShort = 19, "the lent list has fewer places than the book has members";
     RateCountOutOfRange = 20, "the list of rates is empty or has over 200";
-    BufferTooShort = 21, "the table is longer than the lent buffer";
+    BufferTooShort = 21, "the text is longer than the lent buffer";
     PeriodsOutOfRange = 22, "the list of periods has an odd length, or does not have 1 to 32 periods of 1 to 1,440 minutes each";
-}
-
-impl Refusal {
-    /// The ground's number, which a refused report prints.
-    pub fn number(self) -> u32 {
-        self as u32
-    }
-
-    /// The ground with this number, if there is one.
-    pub fn from_number(number: u32) -> Option<Refusal> {
-        Refusal::ALL.iter().copied().find(|refusal| refusal.number() == number)
-    }
 }
 
 impl fmt::Display for Refusal {
     fn fmt(&self, to: &mut fmt::Formatter<'_>) -> fmt::Result {
-        to.write_str(self.sentence())
+        to.write_str(self.sentence())?;
+        match self {
+            Refusal::Other(number) => write!(to, ", number {number}"),
+            _ => Ok(()),
+        }
     }
 }
 

@@ -75,7 +75,7 @@ pub(crate) fn text<'a>(job: &[u8], room: &'a mut [u8; REPORT_ROOM]) -> &'a str {
 fn read(text: &str) -> Option<Result<Report, Refusal>> {
     if let Some(rest) = text.strip_prefix("refused ") {
         let number = rest.strip_suffix('\n')?.parse().ok()?;
-        return Some(Err(Refusal::from_number(number)?));
+        return Some(Err(Refusal::from_number(number)));
     }
     let mut lines = text.lines();
     let mut factors = Factors { places: [0; MAX_MEMBERS], count: 0 };

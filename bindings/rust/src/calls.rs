@@ -1,0 +1,59 @@
+//! The calls that answer a list, a text or a rate.
+use crate::{library, Refusal};
+
+/// The answer itself where it is not negative, and minus the refusal's number otherwise: every call answers so.
+pub(crate) fn answered(answer: i64) -> Result<usize, Refusal> {
+    let number = |answer: i64| u32::try_from(answer.unsigned_abs()).unwrap_or(u32::MAX);
+    usize::try_from(answer).map_err(|_| Refusal::from_number(number(answer)))
+}
+
+/// The factor of every member of a chain book at a rate (hundredths of an air change per hour), in grains of 2^-40 of the parent's
+/// activity, into the first places of `out`. Answers how many; a refusal leaves `out` as it was.
+pub fn factors(rate: u32, book: &[u8], out: &mut [u64]) -> Result<usize, Refusal> {
+    answered(library::factors(rate, book, out))
+}
+
+/// The factor of every member of a chain book after 1 to 32 periods of airing, minute by minute from a shut room, in which all but
+/// the parent are 0; in grains as in `factors`, into the first places of `out`. `periods` has rate (hundredths of an air change per
+/// hour) and minutes (1 to 1,440) in turn. Answers how many factors there are; a refusal leaves `out` as it was.
+pub fn factors_after(periods: &[u32], book: &[u8], out: &mut [u64]) -> Result<usize, Refusal> {
+    answered(library::factors_after(periods, book, out))
+}
+
+/// The report of a whole job, the job's 48 bytes and its chain book: the lines that `screen` writes.
+#[cfg(feature = "std")]
+pub fn report(job: &[u8]) -> String {
+    let mut room = [0; crate::REPORT_ROOM];
+    crate::report::text(job, &mut room).to_owned()
+}
+
+/// The report of a whole job, written to the start of `out`. Answers its length; `None` where it is longer than `out`,
+/// which is then as it was. `REPORT_ROOM` bytes suffice for any.
+pub fn report_into(job: &[u8], out: &mut [u8]) -> Option<usize> {
+    answered(library::report(job, out)).ok().filter(|length| *length != 0)
+}
+
+/// The lowest rate (hundredths of an air change per hour) at which the verdict on a whole job, the job's 48 bytes and its chain book,
+/// is `Verdict::Below`; `None` where no rate from 0 to 100,000 gives it. The job's own rate is checked, and otherwise ignored.
+pub fn lowest_rate(job: &[u8]) -> Result<Option<u32>, Refusal> {
+    /// What the library answers where there is none: one more than the highest rate.
+    const NO_RATE: u32 = 100_001;
+    let answer = answered(library::lowest_rate(job))?;
+    let rate = u32::try_from(answer).expect("the contracts name no other answer");
+    Ok((rate != NO_RATE).then_some(rate))
+}
+
+/// The table of a chain book at 1 to 200 rates (hundredths of an air change per hour). Each rate has one line, in the list's order:
+/// the rate, then every member's factor as its share of the parent's, such as `5.000E-01`, rounded to the nearest, halves up.
+#[cfg(feature = "std")]
+pub fn table(rates: &[u32], book: &[u8]) -> Result<String, Refusal> {
+    let mut room = vec![0; crate::TABLE_ROOM];
+    let length = table_into(rates, book, &mut room)?;
+    Ok(core::str::from_utf8(&room[..length]).expect("a table is ASCII").to_owned())
+}
+
+/// The table of a chain book at 1 to 200 rates, written to the start of `out`. Answers its length; a refusal leaves `out` as it
+/// was. `TABLE_ROOM` bytes suffice for any.
+pub fn table_into(rates: &[u32], book: &[u8], out: &mut [u8]) -> Result<usize, Refusal> {
+    answered(library::table(rates, book, out))
+}
