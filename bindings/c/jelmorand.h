@@ -1,14 +1,14 @@
 /* Jelmorand: chain balance and screening of radon, thoron and actinon indoors.
  *
- * Link with libjelmorand.a (x86-64 Linux). All five functions are proved to answer what is said here for every input, on the
- * condition that a C caller must keep and that nothing checks: each pointer is not null, is aligned for its type, and has at
- * least as many elements behind it as the length after it says, also where that length is 0 (any element's address will do
- * then); and what `out` points to overlaps nothing else that is passed. A length is at most PTRDIFF_MAX bytes.
- * None of them allocates, blocks or keeps a pointer, and all may be called from several threads at once. Of the stack a call for
- * factors takes under 2 KB, a report, a table or a lowest rate under 3 KB, as measured.
+ * Link with libjelmorand.a or libjelmorand.so (x86-64 Linux). All calls but jelmorand_refusal_sentence are proved to answer what is
+ * said here for every input, on the condition that a C caller must keep and that nothing checks: each pointer is aligned for its
+ * type, and has at least as many elements behind it as the length after it says, where that length is 0 it may be null; `figures`,
+ * which has no length, is never null; and what `out`, `figures` and `factors` point to overlaps nothing else that is passed. A
+ * length is at most PTRDIFF_MAX bytes. None of them allocates, blocks or keeps a pointer, and all may be called from several threads
+ * at once. Of the stack a call for factors takes under 2 KB, the others under 4 KB, as measured.
  *
- * Every function answers an int64_t: the answer itself where it is not negative, and minus the number of the refusal otherwise,
- * as in  if (answer == -JELMORAND_BOOK_TOO_SHORT).
+ * Every call answers an int64_t: the answer itself where it is not negative, and minus the number of the refusal otherwise, as in
+ *  if (answer == -JELMORAND_BOOK_TOO_SHORT).
  *
  * The bytes of a job and of a chain book are described, with an example, in docs/FORMAT.md. A job's exposure is in quarter hours
  * per day, 0 to 96. It used to be in whole hours, 0 to 24: a job written so would be taken for a quarter of its exposure, so it
@@ -33,17 +33,19 @@ extern "C" {
  *     if (jelmorand_version() / 1000 != JELMORAND_VERSION / 1000 || jelmorand_version() < JELMORAND_VERSION) */
 int64_t jelmorand_version(void);
 
-/* The most members that a book has, so the most places that jelmorand_factors and jelmorand_factors_after write. */
+/* The most members that a book has, so the most places that are written of a list of factors. This size and the next two will grow:
+ * the book's next edition has up to 32 members. A program that is not compiled again with the larger ones is refused such a book, with
+ * 19 or 21, and never gets more than it lends. */
 #define JELMORAND_MAX_MEMBERS 16
 
 /* No report has more bytes than this. */
 #define JELMORAND_REPORT_ROOM 922
 
-/* The most rates that a table has. */
-#define JELMORAND_MAX_RATES 200
-
 /* No table has more bytes than this. */
 #define JELMORAND_TABLE_ROOM 33400
+
+/* The most rates that a table has. */
+#define JELMORAND_MAX_RATES 200
 
 /* The most periods that jelmorand_factors_after takes. */
 #define JELMORAND_MAX_PERIODS 32
@@ -54,10 +56,20 @@ int64_t jelmorand_version(void);
 /* What jelmorand_lowest_rate answers where no rate gives 'below': one more than the highest rate, so no rate itself. */
 #define JELMORAND_NO_RATE 100001
 
+/* The values of a job's bytes 4 to 6. */
+enum jelmorand_kind { JELMORAND_RISK = 0, JELMORAND_DOSE = 1 };
+enum jelmorand_medium { JELMORAND_INDOOR_AIR = 0, JELMORAND_SOIL_GAS = 1, JELMORAND_GROUNDWATER = 2 };
+enum jelmorand_unit { JELMORAND_PCI_PER_L = 0, JELMORAND_PCI_PER_M3 = 1, JELMORAND_BQ_PER_M3 = 2 };
+
+/* The default exposures of source 001, a job's bytes 32 to 47, to initialise a uint16_t[8] with: days per year, years, quarter hours
+ * per day and breathing in m3 per day, of the child and then of the adult. */
+#define JELMORAND_RESIDENTIAL {350, 6, 96, 10, 350, 20, 96, 20}
+#define JELMORAND_WORKER {0, 0, 0, 0, 250, 25, 32, 60}
+
 /* The grounds for refusal: number, name and sentence, in the order in which they are checked, save that 22 comes straight after 3.
- * A factor call makes checks 3 and 9 to 19, a job 1 to 18, a table 3, 9 to 18, 20 and 21, the factors after periods 3, 22 and 9 to
- * 19, the lowest rate of a job 1 to 18. A later version of the library may have more: a number that is not in this list is a refusal
- * all the same. */
+ * A factor call makes checks 3 and 9 to 19, a report 1 to 18 and 21, its figures 1 to 19, a table 3, 9 to 18, 20 and 21, the factors
+ * after periods 3, 22 and 9 to 19, the lowest rate of a job 1 to 18. A later version of the library may have more: a number that is
+ * not in this list is a refusal all the same. */
 #define JELMORAND_REFUSALS(GROUND) \
     GROUND(1, JELMORAND_JOB_TOO_SHORT, \
            "the job has fewer than 48 bytes") \
@@ -109,20 +121,20 @@ int64_t jelmorand_version(void);
 enum jelmorand_refusal { JELMORAND_REFUSALS(JELMORAND_NAMED) };
 #undef JELMORAND_NAMED
 
-/* The sentence of a refusal, without a full stop, from the list above. `number` is not negative, so it is minus the answer. A number
+/* The sentence of a refusal, without a full stop, from the list above. `number` is the refusal's, so minus the answer. A number
  * that is not in the list has a sentence too, which says so. The function is in refusals.c beside this header, and in the libraries
  * that bindings/install makes. */
 const char *jelmorand_refusal_sentence(int64_t number);
 
 /* The factor of every member of a chain book at one ventilation rate.
  *
- * v: hundredths of an air change per hour, 0 to 100,000.
+ * rate: hundredths of an air change per hour, 0 to 100,000.
  * book: the bytes of the chain book.
  * out: where the factors go, in grains: one grain is 2^-40 of the parent gas's activity, so the parent has 1,099,511,627,776.
  *
  * Accepted, it writes the first n places of `out`, no others, and answers n, the number of members, 1 to 16.
  * Refused, it answers minus the refusal's number, and leaves `out` as it was. */
-int64_t jelmorand_factors(uint32_t v, const uint8_t *book, size_t book_len, uint64_t *out, size_t out_len);
+int64_t jelmorand_factors(uint32_t rate, const uint8_t *book, size_t book_len, uint64_t *out, size_t out_len);
 
 /* The report of a whole job: its 48 bytes followed by the chain book.
  *
@@ -131,10 +143,38 @@ int64_t jelmorand_factors(uint32_t v, const uint8_t *book, size_t book_len, uint
  * `level` (mBq/m3), `equilibrium` (millionths, or none) and `working` (micro working levels, or none).
  * A refused job has a report too: the line `refused` and the number, only.
  *
- * It writes the text to the start of `out` and answers how many bytes it wrote; what is behind them is untouched. Where the text
- * is longer than `out` it writes nothing and answers 0. A text is never empty, so 0 says that there was no room;
- * JELMORAND_REPORT_ROOM bytes suffice for every text. No refusal is answered here: the text says it. */
+ * It writes the text to the start of `out` and answers its length, which is never 0; what is behind the text is untouched. Where the
+ * text is longer than `out` it answers -JELMORAND_BUFFER_TOO_SHORT and leaves `out` as it was; JELMORAND_REPORT_ROOM bytes suffice
+ * for every text. No other refusal is answered here: the text says it. */
 int64_t jelmorand_report(const uint8_t *job, size_t job_len, uint8_t *out, size_t out_len);
+
+/* What jelmorand_screen says of an accepted job. */
+struct jelmorand_figures {
+    uint64_t verdict;       /* JELMORAND_BELOW, JELMORAND_CLOSE or JELMORAND_ABOVE */
+    uint64_t concentration; /* mBq/m3 */
+    uint64_t level;         /* mBq/m3 */
+    uint64_t equilibrium;   /* millionths, or JELMORAND_NONE */
+    uint64_t working;       /* micro working levels, or JELMORAND_NONE where the equilibrium factor is none */
+    uint64_t count;         /* how many members the chain has */
+};
+
+/* The verdicts, from best to worst. */
+enum jelmorand_verdict { JELMORAND_BELOW = 0, JELMORAND_CLOSE = 1, JELMORAND_ABOVE = 2 };
+
+/* An equilibrium factor, or working levels, where there is none. */
+#define JELMORAND_NONE UINT64_MAX
+
+/* What the report of a whole job says, as numbers.
+ *
+ * job: the bytes that jelmorand_report takes, 48 and the chain book.
+ * figures: where the numbers go.
+ * factors: where the factors go, in grains as in jelmorand_factors.
+ *
+ * Accepted, it fills `figures`, writes the first n places of `factors`, no others, and answers n, the number of members, 1 to 16.
+ * Refused, it answers minus the refusal's number, and leaves `figures` and `factors` as they were. The length of `factors` is looked
+ * at last. */
+int64_t jelmorand_screen(const uint8_t *job, size_t job_len, struct jelmorand_figures *figures, uint64_t *factors,
+                         size_t factors_len);
 
 /* The table of a chain book: the factors at each of a list of ventilation rates, for printing.
  *
@@ -147,8 +187,9 @@ int64_t jelmorand_report(const uint8_t *job, size_t job_len, uint8_t *out, size_
  * 0 is 0.000E+00.
  *
  * Accepted, it writes the text to the start of `out` and answers its length; what is behind the text is untouched.
- * Refused, it answers minus the refusal's number, and leaves `out` as it was. The text's length is looked at last;
- * JELMORAND_TABLE_ROOM bytes suffice for every text. */
+ * Refused, it answers minus the refusal's number, and leaves `out` as it was. The whole list is read for a rate that is too high
+ * before its length is refused with 20, however long it is. The text's length is looked at last; JELMORAND_TABLE_ROOM bytes suffice
+ * for every text. */
 int64_t jelmorand_table(const uint32_t *rates, size_t rates_len, const uint8_t *book, size_t book_len, uint8_t *out,
                         size_t out_len);
 
@@ -161,8 +202,9 @@ int64_t jelmorand_table(const uint32_t *rates, size_t rates_len, const uint8_t *
  * out: where the factors at the end of the last period go, in grains as in jelmorand_factors.
  *
  * Accepted, it writes the first n places of `out`, no others, and answers n, the number of members, 1 to 16.
- * Refused, it answers minus the refusal's number, and leaves `out` as it was. A number without minutes after it, at the end of
- * the list, counts as a rate: it is refused with 3 where it is too high, and with 22 otherwise.
+ * Refused, it answers minus the refusal's number, and leaves `out` as it was. The whole list is read for a rate that is too high
+ * before anything else of it is refused with 22, however long it is. A number without minutes after it, at the end of the list,
+ * counts as a rate: it is refused with 3 where it is too high, and with 22 otherwise.
  *
  * The time that it takes grows with the minutes of all periods together, at most 46,080. */
 int64_t jelmorand_factors_after(const uint32_t *periods, size_t periods_len, const uint8_t *book, size_t book_len, uint64_t *out,

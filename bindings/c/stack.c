@@ -23,7 +23,7 @@
 #define AFTER_LIMIT 2048
 #define JOB_LIMIT 4096
 
-enum call { NONE, FACTORS, AFTER, REPORT, TABLE, LOWEST, CALLS };
+enum call { NONE, FACTORS, AFTER, REPORT, FIGURES, TABLE, LOWEST, CALLS };
 
 static _Alignas(64) uint8_t space[SPACE];
 static ucontext_t here, there;
@@ -36,6 +36,7 @@ static uint8_t job[65536];
 static size_t job_length;
 
 static uint64_t factors[JELMORAND_MAX_MEMBERS];
+static struct jelmorand_figures figures;
 static uint8_t text[JELMORAND_TABLE_ROOM];
 static volatile int64_t answer;
 
@@ -57,6 +58,9 @@ static void make_call(void)
         break;
     case REPORT:
         answer = jelmorand_report(job, job_length, text, JELMORAND_REPORT_ROOM);
+        break;
+    case FIGURES:
+        answer = jelmorand_screen(job, job_length, &figures, factors, JELMORAND_MAX_MEMBERS);
         break;
     case TABLE:
         answer = jelmorand_table(rates, JELMORAND_MAX_RATES, book, book_length(), text, JELMORAND_TABLE_ROOM);
@@ -149,8 +153,8 @@ int main(int count, char **words)
         }
     fclose(cases);
     printf("stack: the most over %d recorded jobs: a factor call %zu bytes, factors after periods %zu, "
-           "a whole job with its report %zu, a table of 200 rates %zu, a lowest rate %zu\n",
-           jobs, most[FACTORS], most[AFTER], most[REPORT], most[TABLE], most[LOWEST]);
+           "a whole job with its report %zu, its figures %zu, a table of 200 rates %zu, a lowest rate %zu\n",
+           jobs, most[FACTORS], most[AFTER], most[REPORT], most[FIGURES], most[TABLE], most[LOWEST]);
     return jobs == 0 || most[FACTORS] >= FACTORS_LIMIT || most[AFTER] >= AFTER_LIMIT || most[REPORT] >= JOB_LIMIT
-        || most[LOWEST] >= JOB_LIMIT;
+        || most[FIGURES] >= JOB_LIMIT || most[LOWEST] >= JOB_LIMIT;
 }

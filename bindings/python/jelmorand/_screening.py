@@ -1,0 +1,65 @@
+"""A whole job's figures."""
+
+from __future__ import annotations
+
+import ctypes
+import dataclasses
+from typing import TYPE_CHECKING, List, Optional
+
+from ._given import plain
+from ._library import LIBRARY, Figures
+from ._limits import MAX_MEMBERS
+from ._refusals import answered
+
+if TYPE_CHECKING:
+    from _typeshed import ReadableBuffer as Bytes
+
+VERDICTS = ("below", "close", "above")
+"""The words of the verdicts by their numbers."""
+
+NONE = 2**64 - 1
+"""An equilibrium factor or a working level where there is none."""
+
+
+@dataclasses.dataclass(frozen=True)
+class WorkingLevels:
+    """The equilibrium factor, in millionths, and millionths of a working level."""
+
+    equilibrium: int
+    micro: int
+
+
+@dataclasses.dataclass(frozen=True)
+class Report:
+    """What an accepted job's report says.
+
+    factors: every member's factor in grains of 2^-40 of the parent's activity, the parent first.
+    concentration: the parent's concentration in indoor air, mBq/m3.
+    verdict: 'below', 'close' or 'above': whether the risk or the yearly dose passes the target.
+    level: the screening level, the highest concentration that is 'below', mBq/m3.
+    working: None where no later member of the chain has alpha energy without ventilation.
+    """
+
+    factors: List[int]
+    concentration: int
+    verdict: str
+    level: int
+    working: Optional[WorkingLevels]
+
+
+def screen(job: Bytes) -> Report:
+    """What the report of a whole job says: its 48 bytes and its chain book. Raises Refused where the job is refused."""
+    data, figures = plain(job, "job"), Figures()
+    places = (ctypes.c_uint64 * MAX_MEMBERS)()
+    count = answered(LIBRARY.jelmorand_screen(data, len(data), ctypes.byref(figures), places, MAX_MEMBERS))
+    return Report(
+        factors=list(places[:count]),
+        concentration=figures.concentration,
+        verdict=VERDICTS[figures.verdict],
+        level=figures.level,
+        working=_working(figures),
+    )
+
+
+def _working(figures: Figures) -> Optional[WorkingLevels]:
+    return None if figures.equilibrium == NONE else WorkingLevels(figures.equilibrium, figures.working)
