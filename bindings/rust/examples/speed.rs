@@ -7,6 +7,7 @@ mod common;
 
 use common::books::book_of;
 use common::lowest_speed::timings;
+use common::periods::in_turn;
 use common::random::Random;
 use common::timing::{best, best_of_each};
 use common::{plain, plain_job, plain_minutes, plain_table};
@@ -80,13 +81,14 @@ fn time_table(book: &[u8]) {
 
 fn time_periods(book: &[u8]) {
     let rates = (0..jelmorand::MAX_PERIODS as u32).map(|k| k * 3_000);
-    let periods: Vec<u32> = rates.flat_map(|v| [v, jelmorand::MAX_MINUTES]).collect();
+    let periods: Vec<(u32, u32)> = rates.map(|rate| (rate, jelmorand::MAX_MINUTES)).collect();
+    let numbers = in_turn(&periods);
     let (mut proved_list, mut plain_list) = ([0; jelmorand::MAX_MEMBERS], [0; jelmorand::MAX_MEMBERS]);
     let proved_call = || {
         jelmorand::factors_after(black_box(&periods), black_box(book), black_box(&mut proved_list)).expect("a good book");
     };
     let plain_call = || {
-        plain_minutes::factors_after(black_box(&periods), black_box(book), black_box(&mut plain_list)).expect("a good book");
+        plain_minutes::factors_after(black_box(&numbers), black_box(book), black_box(&mut plain_list)).expect("a good book");
     };
     let (proved, rewrite) = best_of_each(PERIODS_ROUNDS, proved_call, plain_call);
     assert!(proved_list == plain_list, "the two lists differ");

@@ -1,4 +1,5 @@
 //! The calls that answer a list, a text or a rate.
+use crate::periods::Flat;
 use crate::{library, Refusal};
 
 /// The answer itself where it is not negative, and minus the refusal's number otherwise: every call answers so.
@@ -14,23 +15,24 @@ pub fn factors(rate: u32, book: &[u8], out: &mut [u64]) -> Result<usize, Refusal
 }
 
 /// The factor of every member of a chain book after 1 to 32 periods of airing, minute by minute from a shut room, in which all but
-/// the parent are 0; in grains as in `factors`, into the first places of `out`. `periods` has rate (hundredths of an air change per
-/// hour) and minutes (1 to 1,440) in turn. Answers how many factors there are; a refusal leaves `out` as it was.
-pub fn factors_after(periods: &[u32], book: &[u8], out: &mut [u64]) -> Result<usize, Refusal> {
-    answered(library::factors_after(periods, book, out))
+/// the parent are 0; in grains as in `factors`, into the first places of `out`. A period is a rate (hundredths of an air change per
+/// hour) and its minutes (1 to 1,440). Answers how many factors there are; a refusal leaves `out` as it was.
+pub fn factors_after(periods: &[(u32, u32)], book: &[u8], out: &mut [u64]) -> Result<usize, Refusal> {
+    answered(library::factors_after(Flat::of(periods).numbers(), book, out))
 }
 
 /// The report of a whole job, the job's 48 bytes and its chain book: the lines that `screen` writes.
 #[cfg(feature = "std")]
 pub fn report(job: &[u8]) -> String {
     let mut room = [0; crate::REPORT_ROOM];
-    crate::report::text(job, &mut room).to_owned()
+    let length = report_into(job, &mut room).expect("no report is longer");
+    text(&room[..length])
 }
 
-/// The report of a whole job, written to the start of `out`. Answers its length; `None` where it is longer than `out`,
-/// which is then as it was. `REPORT_ROOM` bytes suffice for any.
-pub fn report_into(job: &[u8], out: &mut [u8]) -> Option<usize> {
-    answered(library::report(job, out)).ok().filter(|length| *length != 0)
+/// The report of a whole job, written to the start of `out`. Answers its length; one that is longer than `out` is
+/// `Refusal::BufferTooShort`, which leaves `out` as it was. `REPORT_ROOM` bytes suffice for any.
+pub fn report_into(job: &[u8], out: &mut [u8]) -> Result<usize, Refusal> {
+    answered(library::report(job, out))
 }
 
 /// The lowest rate (hundredths of an air change per hour) at which the verdict on a whole job, the job's 48 bytes and its chain book,
@@ -49,11 +51,16 @@ pub fn lowest_rate(job: &[u8]) -> Result<Option<u32>, Refusal> {
 pub fn table(rates: &[u32], book: &[u8]) -> Result<String, Refusal> {
     let mut room = vec![0; crate::TABLE_ROOM];
     let length = table_into(rates, book, &mut room)?;
-    Ok(core::str::from_utf8(&room[..length]).expect("a table is ASCII").to_owned())
+    Ok(text(&room[..length]))
 }
 
 /// The table of a chain book at 1 to 200 rates, written to the start of `out`. Answers its length; a refusal leaves `out` as it
 /// was. `TABLE_ROOM` bytes suffice for any.
 pub fn table_into(rates: &[u32], book: &[u8], out: &mut [u8]) -> Result<usize, Refusal> {
     answered(library::table(rates, book, out))
+}
+
+#[cfg(feature = "std")]
+fn text(bytes: &[u8]) -> String {
+    core::str::from_utf8(bytes).expect("a text is ASCII").to_owned()
 }

@@ -1,7 +1,7 @@
 //! Chain balance and screening of radon, thoron and actinon indoors.
 //!
-//! The five functions behind this crate are proved to answer what their contracts in `crates/jelmorand` say, for every input.
-//! What is not proved is this crate: that it declares them as they are, and that it reads a report's text as it should.
+//! The functions behind this crate are proved to answer what their contracts in `crates/jelmorand` say, for every input. What is not
+//! proved is this crate: that it declares them as they are.
 //!
 //! A job is 48 bytes, followed by a chain book; `docs/FORMAT.md` has the bytes. The job here is a gas alone with an inhalation
 //! risk of 1,000, at 1 pCi/L of indoor air in a home, against a target of 1,610 billionths. Exposure is in quarter hours per day,
@@ -43,7 +43,7 @@
 //! assert_eq!(refused.to_string(), "the rate exceeds 100,000");
 //!
 //! // Shut for eight hours, then aired for one.
-//! assert_eq!(jelmorand::factors_after(&[0, 480, 200, 60], &book, &mut factors)?, 1);
+//! assert_eq!(jelmorand::factors_after(&[(0, 480), (200, 60)], &book, &mut factors)?, 1);
 //!
 //! let table = jelmorand::table(&[18, 100], &book)?;
 //! assert_eq!(table, "18 1.000E+00\n100 1.000E+00\n");
@@ -55,6 +55,7 @@
 
 mod calls;
 mod library;
+mod periods;
 mod refusal;
 mod report;
 mod version;

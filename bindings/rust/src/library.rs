@@ -5,9 +5,21 @@
 
 use crate::version;
 
+/// The header's struct of the same name.
+#[derive(Default)]
+#[repr(C)]
+pub struct Figures {
+    pub verdict: u64,
+    pub concentration: u64,
+    pub level: u64,
+    pub equilibrium: u64,
+    pub working: u64,
+    pub count: u64,
+}
+
 extern "C" {
     fn jelmorand_version() -> i64;
-    fn jelmorand_factors(v: u32, book: *const u8, book_len: usize, out: *mut u64, out_len: usize) -> i64;
+    fn jelmorand_factors(rate: u32, book: *const u8, book_len: usize, out: *mut u64, out_len: usize) -> i64;
     fn jelmorand_report(job: *const u8, job_len: usize, out: *mut u8, out_len: usize) -> i64;
     fn jelmorand_table(
         rates: *const u32,
@@ -25,6 +37,7 @@ extern "C" {
         out: *mut u64,
         out_len: usize,
     ) -> i64;
+    fn jelmorand_screen(job: *const u8, job_len: usize, figures: *mut Figures, factors: *mut u64, factors_len: usize) -> i64;
     fn jelmorand_lowest_rate(job: *const u8, job_len: usize) -> i64;
 }
 
@@ -50,6 +63,11 @@ pub fn table(rates: &[u32], book: &[u8], out: &mut [u8]) -> i64 {
 pub fn factors_after(periods: &[u32], book: &[u8], out: &mut [u64]) -> i64 {
     version::check();
     unsafe { jelmorand_factors_after(periods.as_ptr(), periods.len(), book.as_ptr(), book.len(), out.as_mut_ptr(), out.len()) }
+}
+
+pub fn screen(job: &[u8], figures: &mut Figures, factors: &mut [u64]) -> i64 {
+    version::check();
+    unsafe { jelmorand_screen(job.as_ptr(), job.len(), figures, factors.as_mut_ptr(), factors.len()) }
 }
 
 pub fn lowest_rate(job: &[u8]) -> i64 {

@@ -1,5 +1,7 @@
-//! A report as fields, read once from its text.
-use crate::{report_into, Refusal, MAX_MEMBERS, REPORT_ROOM};
+//! What a job's report says, as fields.
+use crate::calls::answered;
+use crate::library::{self, Figures};
+use crate::{Refusal, MAX_MEMBERS};
 use core::fmt;
 use core::ops::Deref;
 
@@ -59,58 +61,30 @@ pub struct Report {
     pub working: Option<WorkingLevels>,
 }
 
-/// The report of a whole job, the job's 48 bytes and its chain book, as fields; or why it is refused.
+/// What the report of a whole job says, the job's 48 bytes and its chain book; or why it is refused.
 pub fn screen(job: &[u8]) -> Result<Report, Refusal> {
-    let mut room = [0; REPORT_ROOM];
-    read(text(job, &mut room)).expect("a report has the lines that its definition names")
+    let mut figures = Figures::default();
+    let mut places = [0; MAX_MEMBERS];
+    let count = answered(library::screen(job, &mut figures, &mut places))?;
+    Ok(Report {
+        factors: Factors { places, count },
+        concentration: figures.concentration,
+        verdict: verdict(figures.verdict),
+        level: figures.level,
+        working: working(&figures),
+    })
 }
 
-/// The report's text, in a room that takes any.
-pub(crate) fn text<'a>(job: &[u8], room: &'a mut [u8; REPORT_ROOM]) -> &'a str {
-    let length = report_into(job, room).expect("no report is longer");
-    core::str::from_utf8(&room[..length]).expect("a report is ASCII")
-}
-
-/// `None` where the text is no report's.
-fn read(text: &str) -> Option<Result<Report, Refusal>> {
-    if let Some(rest) = text.strip_prefix("refused ") {
-        let number = rest.strip_suffix('\n')?.parse().ok()?;
-        return Some(Err(Refusal::from_number(number)));
-    }
-    let mut lines = text.lines();
-    let mut factors = Factors { places: [0; MAX_MEMBERS], count: 0 };
-    let mut line = lines.next()?;
-    while let Some(rest) = line.strip_prefix("factor ") {
-        let (member, grains) = rest.split_once(' ')?;
-        (number(member)? == factors.count as u64).then_some(())?;
-        *factors.places.get_mut(factors.count)? = number(grains)?;
-        factors.count += 1;
-        line = lines.next()?;
-    }
-    let concentration = number(line.strip_prefix("concentration ")?)?;
-    let verdict = verdict(lines.next()?.strip_prefix("verdict ")?)?;
-    let level = number(lines.next()?.strip_prefix("level ")?)?;
-    let equilibrium = lines.next()?.strip_prefix("equilibrium ")?;
-    let working = working(equilibrium, lines.next()?.strip_prefix("working ")?)?;
-    lines.next().is_none().then_some(Ok(Report { factors, concentration, verdict, level, working }))
-}
-
-fn number(word: &str) -> Option<u64> {
-    word.parse().ok()
-}
-
-fn verdict(word: &str) -> Option<Verdict> {
-    match word {
-        "below" => Some(Verdict::Below),
-        "close" => Some(Verdict::Close),
-        "above" => Some(Verdict::Above),
-        _ => None,
+fn verdict(number: u64) -> Verdict {
+    match number {
+        0 => Verdict::Below,
+        1 => Verdict::Close,
+        2 => Verdict::Above,
+        _ => panic!("the contracts name no verdict {number}"),
     }
 }
 
-fn working(equilibrium: &str, micro: &str) -> Option<Option<WorkingLevels>> {
-    if (equilibrium, micro) == ("none", "none") {
-        return Some(None);
-    }
-    Some(Some(WorkingLevels { equilibrium: number(equilibrium)?, micro: number(micro)? }))
+fn working(figures: &Figures) -> Option<WorkingLevels> {
+    let Figures { equilibrium, working, .. } = *figures;
+    (equilibrium != u64::MAX).then_some(WorkingLevels { equilibrium, micro: working })
 }

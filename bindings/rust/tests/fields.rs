@@ -1,37 +1,80 @@
-//! A report's fields against its text.
+//! A job's figures against the plain rewrite on random jobs, and against its report's text, there and on the recorded jobs.
 mod common;
 
 use common::books::any_job;
 use common::edge_jobs::edge_job;
+use common::plain_job;
 use common::random::Random;
-use jelmorand::{Report, Verdict};
+use common::recorded;
+use jelmorand::{Report, Verdict, WorkingLevels};
 
-const JOBS: usize = 5_000;
+const JOBS: usize = 10_000;
+
+fn word(verdict: Verdict) -> &'static str {
+    match verdict {
+        Verdict::Below => "below",
+        Verdict::Close => "close",
+        Verdict::Above => "above",
+    }
+}
 
 /// The text that a report with these fields has.
 fn text_of(report: &Report) -> String {
     let factors: String = report.factors.iter().enumerate().map(|(i, grains)| format!("factor {i} {grains}\n")).collect();
-    let verdict = match report.verdict {
-        Verdict::Below => "below",
-        Verdict::Close => "close",
-        Verdict::Above => "above",
-    };
     let working = match report.working {
         None => "equilibrium none\nworking none\n".to_owned(),
         Some(levels) => format!("equilibrium {}\nworking {}\n", levels.equilibrium, levels.micro),
     };
-    format!("{factors}concentration {}\nverdict {verdict}\nlevel {}\n{working}", report.concentration, report.level)
+    let (air, verdict, level) = (report.concentration, word(report.verdict), report.level);
+    format!("{factors}concentration {air}\nverdict {verdict}\nlevel {level}\n{working}")
+}
+
+/// The figures' text, which for a refused job is the line of its refusal.
+fn screened(job: &[u8]) -> String {
+    match jelmorand::screen(job) {
+        Ok(report) => text_of(&report),
+        Err(refusal) => format!("refused {}\n", refusal.number()),
+    }
+}
+
+fn same(report: &Report, plain: &plain_job::Figures) -> bool {
+    let working = |levels: WorkingLevels| (u128::from(levels.equilibrium), u128::from(levels.micro));
+    *report.factors == plain.factors[..]
+        && u128::from(report.concentration) == plain.air
+        && word(report.verdict) == plain.verdict
+        && u128::from(report.level) == plain.level
+        && report.working.map(working) == plain.working
 }
 
 #[test]
-fn fields_are_the_text() {
-    let mut random = Random::fresh("fields");
+fn figures_agree_with_the_rewrite() {
+    let mut random = Random::fresh("figures");
+    let (mut verdicts, mut levels, mut refused) = ([0; 3], [0; 2], [0; 19]);
     for count in 0..JOBS {
         let job = if random.one_in(2) { edge_job(&mut random) } else { any_job(&mut random) };
-        let text = match jelmorand::screen(&job) {
-            Ok(report) => text_of(&report),
-            Err(refusal) => format!("refused {}\n", refusal.number()),
-        };
-        assert_eq!(text, jelmorand::report(&job), "job {count}: {job:?}");
+        match (jelmorand::screen(&job), plain_job::figures(&job)) {
+            (Ok(report), Ok(plain)) => {
+                assert!(same(&report, &plain), "job {count}: {report:?} of {job:?}");
+                verdicts[report.verdict as usize] += 1;
+                levels[usize::from(report.working.is_some())] += 1;
+            }
+            (Err(refusal), Err(number)) => {
+                assert_eq!(refusal.number(), number, "job {count}: {job:?}");
+                refused[number as usize] += 1;
+            }
+            (report, _) => panic!("job {count}: {report:?} of {job:?}"),
+        }
+        assert_eq!(screened(&job), jelmorand::report(&job), "job {count}: {job:?}");
+    }
+    println!("figures: {JOBS} jobs, below, close, above {verdicts:?}, refusals by number {:?}", &refused[1..]);
+    assert!(verdicts.iter().chain(&levels).chain(&refused[1..]).all(|n| *n > 0), "some answer never came up");
+}
+
+#[test]
+fn figures_of_recorded_jobs_are_their_reports() {
+    for kind in [recorded::REPORT, recorded::LOWEST] {
+        for (count, job) in recorded::jobs(kind).iter().enumerate() {
+            assert_eq!(screened(job), jelmorand::report(job), "kind {kind}, job {count}: {job:?}");
+        }
     }
 }

@@ -3,11 +3,11 @@
 mod common;
 
 use common::books::{any_book, any_rate, good_book};
-use common::periods::{any_periods, periods_of};
+use common::periods::{any_periods, in_turn, periods_of};
 use common::plain::GRAINS;
 use common::plain_minutes::{self, steady_at_most};
 use common::random::Random;
-use jelmorand::{MAX_MEMBERS, MAX_MINUTES, MAX_PERIODS};
+use jelmorand::{Refusal, MAX_MEMBERS, MAX_MINUTES, MAX_PERIODS};
 use std::collections::BTreeSet;
 
 const CALLS: usize = 12_000;
@@ -25,7 +25,7 @@ fn factors_after_periods_agree_with_the_rewrite() {
         let before: Vec<u64> = (0..room).map(|_| random.next()).collect();
         let mut expected_list = before.clone();
         let mut list = before.clone();
-        let expected = plain_minutes::factors_after(&periods, &book, &mut expected_list);
+        let expected = plain_minutes::factors_after(&in_turn(&periods), &book, &mut expected_list);
         let answer = jelmorand::factors_after(&periods, &book, &mut list).map_err(|refusal| refusal.number());
         assert_eq!(answer, expected, "call {call}: periods {periods:?}, room {room}, book {book:?}");
         assert_eq!(list, expected_list, "call {call}: periods {periods:?}, room {room}, book {book:?}");
@@ -46,20 +46,20 @@ fn factors_after_periods_agree_with_the_rewrite() {
 }
 
 /// The factors after periods that are within the limits.
-fn after(periods: &[u32], book: &[u8]) -> Vec<u64> {
+fn after(periods: &[(u32, u32)], book: &[u8]) -> Vec<u64> {
     let mut list = [0; MAX_MEMBERS];
     let n = jelmorand::factors_after(periods, book, &mut list).expect("good periods and a good book");
     list[..n].to_vec()
 }
 
 /// So many minutes at one rate, as few periods as it takes.
-fn at_one_rate(v: u32, minutes: u32) -> Vec<u32> {
+fn at_one_rate(rate: u32, minutes: u32) -> Vec<(u32, u32)> {
     let left = minutes % MAX_MINUTES;
-    let whole = [v, MAX_MINUTES].repeat((minutes / MAX_MINUTES) as usize);
+    let whole = [(rate, MAX_MINUTES)].repeat((minutes / MAX_MINUTES) as usize);
     if left == 0 {
         whole
     } else {
-        [whole, vec![v, left]].concat()
+        [whole, vec![(rate, left)]].concat()
     }
 }
 
@@ -120,8 +120,8 @@ fn split_periods_are_one() {
         let (first, second) = (random.of_any_size(720) as u32, random.of_any_size(720) as u32);
         let others = random.within(0, 3);
         let (early, late) = (periods_of(&mut random, others), periods_of(&mut random, others));
-        let one = [&early[..], &[v, first + second], &late].concat();
-        let two = [&early[..], &[v, first, v, second], &late].concat();
+        let one = [&early[..], &[(v, first + second)], &late].concat();
+        let two = [&early[..], &[(v, first), (v, second)], &late].concat();
         assert_eq!(after(&two, &book), after(&one, &book), "split {count}: periods {two:?}, book {book:?}");
     }
 }
@@ -131,23 +131,37 @@ fn split_periods_are_one() {
 fn longest_periods() {
     let mut random = Random::fresh("longest");
     let book = good_book(&mut random);
-    let periods: Vec<u32> = (0..MAX_PERIODS).flat_map(|_| [any_rate(&mut random).min(100_000), MAX_MINUTES]).collect();
+    let periods: Vec<(u32, u32)> = (0..MAX_PERIODS).map(|_| (any_rate(&mut random).min(100_000), MAX_MINUTES)).collect();
     let mut expected = [0; MAX_MEMBERS];
-    let n = plain_minutes::factors_after(&periods, &book, &mut expected).expect("good periods and a good book");
+    let n = plain_minutes::factors_after(&in_turn(&periods), &book, &mut expected).expect("good periods and a good book");
     assert_eq!(after(&periods, &book), expected[..n], "periods {periods:?}, book {book:?}");
 }
 
-/// Both edges of the count and of the length, an odd list before the book, and a rate before an odd list.
+/// Both edges of the count and of the length, before the book; and a rate before either, wherever it stands in the list.
 #[test]
 fn periods_out_of_range_are_refused() {
-    let number = |periods: &[u32]| jelmorand::factors_after(periods, &[], &mut []).map_err(|refusal| refusal.number());
-    for periods in [&[][..], &[0], &[0, 1, 0], &[0, 0], &[0, 1_441], &[0, u32::MAX], &[0, 1, 100_000, 0], &[0, 1].repeat(33)] {
+    let number = |periods: &[(u32, u32)]| jelmorand::factors_after(periods, &[], &mut []).map_err(|refusal| refusal.number());
+    for periods in [&[][..], &[(0, 0)], &[(0, 1_441)], &[(0, u32::MAX)], &[(0, 1), (100_000, 0)], &[(0, 1)].repeat(33)] {
         assert_eq!(number(periods), Err(22), "{periods:?}");
     }
-    for periods in [&[100_001][..], &[0, 1, 100_001], &[100_001, 0], &[0, 0, u32::MAX, 1], &[100_001].repeat(80)] {
+    for periods in [&[(100_001, 1)][..], &[(0, 1), (100_001, 0)], &[(0, 0), (u32::MAX, 1)], &[(100_001, 0)].repeat(40)] {
         assert_eq!(number(periods), Err(3), "{periods:?}");
     }
-    for periods in [&[0, 1][..], &[100_000, 1_440], &[0, 1].repeat(32)] {
+    for periods in [&[(0, 1)][..], &[(100_000, 1_440)], &[(0, 1)].repeat(32)] {
         assert_eq!(number(periods), Err(9), "{periods:?}");
+    }
+}
+
+/// A list of any length is read whole for a rate that is too high before it is refused as too long.
+#[test]
+fn long_lists_are_read_whole() {
+    for count in [33, 34, 100] {
+        for at in [0, 31, 32, count - 1] {
+            let mut periods = vec![(0, 1); count];
+            periods[at].0 = 100_001;
+            assert_eq!(jelmorand::factors_after(&periods, &[], &mut []), Err(Refusal::RateTooHigh), "{at} of {count}");
+            periods[at] = (0, 0);
+            assert_eq!(jelmorand::factors_after(&periods, &[], &mut []), Err(Refusal::PeriodsOutOfRange), "{at} of {count}");
+        }
     }
 }

@@ -5,6 +5,7 @@ use common::books::any_job;
 use common::edge_jobs::edge_job;
 use common::plain_job;
 use common::random::Random;
+use jelmorand::Refusal;
 
 const JOBS: usize = 20_000;
 
@@ -41,10 +42,10 @@ fn room_is_respected() {
             let mut list = before.clone();
             let length = jelmorand::report_into(&job, &mut list);
             if room < text.len() {
-                assert_eq!((length, list), (None, before), "job {count} in {room}: {job:?}");
+                assert_eq!((length, list), (Err(Refusal::BufferTooShort), before), "job {count} in {room}: {job:?}");
             } else {
                 let expected = [&text[..], &before[text.len()..]].concat();
-                assert_eq!((length, list), (Some(text.len()), expected), "job {count} in {room}: {job:?}");
+                assert_eq!((length, list), (Ok(text.len()), expected), "job {count} in {room}: {job:?}");
             }
         }
     }

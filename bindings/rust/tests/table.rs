@@ -6,7 +6,7 @@ use common::books::{any_book, book_of};
 use common::plain_table;
 use common::random::Random;
 use common::tables::{any_rates, chosen_book};
-use jelmorand::{MAX_RATES, TABLE_ROOM};
+use jelmorand::{Refusal, MAX_RATES, TABLE_ROOM};
 
 const TABLES: usize = 6_000;
 const BOOKS: usize = 3_000;
@@ -94,4 +94,16 @@ fn empty_lists_are_refused() {
     assert_eq!(number(&[], &[]), Err(9));
     assert_eq!(number(&[], &book), Err(20));
     assert_eq!(number(&[0], &book), Err(21));
+}
+
+/// A list of any length is read whole for a rate that is too high before it is refused as too long.
+#[test]
+fn long_lists_are_read_whole() {
+    let book = book_of(&mut Random::from_seed(1), 1, 0);
+    for count in [201, 202, 5_000] {
+        let mut rates = vec![0; count];
+        assert_eq!(jelmorand::table_into(&rates, &book, &mut []), Err(Refusal::RateCountOutOfRange), "{count}");
+        rates[count - 1] = 100_001;
+        assert_eq!(jelmorand::table_into(&rates, &book, &mut []), Err(Refusal::RateTooHigh), "{count}");
+    }
 }

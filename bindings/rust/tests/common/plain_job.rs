@@ -135,15 +135,31 @@ pub fn admitted(bytes: &[u8]) -> Result<Admitted<'_>, u32> {
     Ok(Admitted { job, air, chain })
 }
 
-fn accepted(bytes: &[u8]) -> Result<String, u32> {
+/// What an accepted job's report says.
+pub struct Figures {
+    pub factors: Vec<u64>,
+    pub air: u128,
+    pub verdict: &'static str,
+    pub level: u128,
+    pub working: Option<(u128, u128)>,
+}
+
+/// Checks 1 to 18, then the figures.
+pub fn figures(bytes: &[u8]) -> Result<Figures, u32> {
     let Admitted { job, air, chain } = admitted(bytes)?;
     let factors = balance(&chain, job.number(0, 4) as u32);
     let (verdict, level) = judged(&job, &chain, &factors, air);
+    let working = working(&chain, &factors, air);
+    Ok(Figures { factors, air, verdict, level, working })
+}
+
+fn accepted(bytes: &[u8]) -> Result<String, u32> {
+    let Figures { factors, air, verdict, level, working } = figures(bytes)?;
     let mut text = String::new();
     for (i, factor) in factors.iter().enumerate() {
         writeln!(text, "factor {i} {factor}").expect("a string takes any text");
     }
-    let levels = match working(&chain, &factors, air) {
+    let levels = match working {
         None => "equilibrium none\nworking none\n".to_string(),
         Some((equilibrium, micro)) => format!("equilibrium {equilibrium}\nworking {micro}\n"),
     };
