@@ -4,14 +4,16 @@
     report = jelmorand.screen(open("room.job", "rb").read())
     print(report.verdict, report.concentration, report.level)
 
-A job is 48 bytes, followed by a chain book; docs/FORMAT.md has the bytes. Its exposure is in quarter hours per day, 0 to 96: a job
+A job is 48 bytes, followed by a chain book; docs/FORMAT.md has the bytes, and Job and Book write them. Its exposure is in quarter hours per day, 0 to 96: a job
 written in whole hours, as jobs used to be, must not be passed.
 
 The shared object is the file that JELMORAND_SO names, or libjelmorand.so beside this file. The functions in it are proved to answer
 what their contracts in crates/jelmorand say, for every input; this package, which calls them, is not proved.
 """
 
+from ._books import Book
 from ._calls import factors, factors_after, lowest_rate, report, table
+from ._jobs import JOB_LENGTH, RESIDENTIAL, WORKER, Exposure, Group, Job, Kind, Medium, Unit
 from ._limits import MAX_MEMBERS, MAX_MINUTES, MAX_PERIODS, MAX_RATES, REPORT_ROOM, TABLE_ROOM
 from ._refusals import GROUNDS, Refused
 from ._screening import Report, WorkingLevels, screen
@@ -19,14 +21,24 @@ from ._version import __version__
 
 __all__ = [
     "GROUNDS",
+    "JOB_LENGTH",
     "MAX_MEMBERS",
     "MAX_MINUTES",
     "MAX_PERIODS",
     "MAX_RATES",
     "REPORT_ROOM",
+    "RESIDENTIAL",
     "TABLE_ROOM",
+    "WORKER",
+    "Book",
+    "Exposure",
+    "Group",
+    "Job",
+    "Kind",
+    "Medium",
     "Refused",
     "Report",
+    "Unit",
     "WorkingLevels",
     "__version__",
     "factors",

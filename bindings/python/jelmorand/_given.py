@@ -9,6 +9,8 @@ from typing import TYPE_CHECKING, Iterable, SupportsIndex, Tuple
 if TYPE_CHECKING:
     from _typeshed import ReadableBuffer as Bytes
 
+MOST_32_BITS = 2**32 - 1
+
 RATE = "a rate is a whole number of hundredths of an air change per hour"
 MINUTES = "a number of minutes is a whole number"
 
@@ -33,7 +35,7 @@ def whole(number: SupportsIndex, what: str, most: int) -> int:
 
 
 def rate_of(rate: SupportsIndex) -> int:
-    return whole(rate, RATE, 2**32 - 1)
+    return whole(rate, RATE, MOST_32_BITS)
 
 
 def _period(period: Tuple[SupportsIndex, SupportsIndex]) -> Tuple[int, int]:
@@ -41,7 +43,7 @@ def _period(period: Tuple[SupportsIndex, SupportsIndex]) -> Tuple[int, int]:
         rate, minutes = period
     except (TypeError, ValueError):
         raise TypeError(f"{period!r} is given, and a period is a rate and its minutes, such as (400, 60)") from None
-    return rate_of(rate), whole(minutes, MINUTES, 2**32 - 1)
+    return rate_of(rate), whole(minutes, MINUTES, MOST_32_BITS)
 
 
 def listed_rates(rates: Iterable[SupportsIndex]) -> ctypes.Array[ctypes.c_uint32]:

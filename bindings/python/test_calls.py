@@ -1,13 +1,14 @@
-"""The Python module against the recorded cases, tables and lowest rates, the reference, the stored examples, the C header, its page
-and document 01's rows.
+"""The calls from Python against the recorded cases, tables and lowest rates, the reference, the stored examples, the page and document
+01's rows.
 
-    JELMORAND_SO=target/libjelmorand.so python3 bindings/python/test_jelmorand.py
+    JELMORAND_SO=target/libjelmorand.so python3 bindings/python/test_calls.py
 """
 
+import array
 import ctypes
+import fractions
 import os
 import pathlib
-import pickle
 import random
 import re
 import struct
@@ -19,6 +20,7 @@ ROOT = pathlib.Path(__file__).resolve().parents[2]
 sys.path.insert(0, str(ROOT / "docs" / "src"))
 
 import jelmorand
+from jelmorand import _library, _limits
 import recorded
 import reference
 from packing import bits, pack_book, pack_feed, pack_job, pack_member
@@ -39,8 +41,8 @@ def recorded_tables():
     return [recorded.table_call(body) for body in recorded_bodies(recorded.TABLE)]
 
 
-def any_periods(chance):
-    """One to four short periods within the limits; one list in three has a number changed or its last left out."""
+def any_numbers(chance):
+    """Rate and minutes of one to four short periods; one list in three has a number changed or its last left out."""
     periods = []
     for _ in range(chance.randint(1, 4)):
         periods += [chance.choice((0, 18, 6_000, 100_000)), chance.randint(1, 4)]
@@ -65,6 +67,16 @@ def screened(job):
         return text_of(jelmorand.screen(job))
     except jelmorand.Refused as refused:
         return f"refused {refused.number}\n"
+
+
+class Whole:
+    """A number that is no int, and counts as one."""
+
+    def __init__(self, number):
+        self.number = number
+
+    def __index__(self):
+        return self.number
 
 
 class Factors(unittest.TestCase):
@@ -94,27 +106,39 @@ class Factors(unittest.TestCase):
             jelmorand.factors(-1, self.BOOK)
 
     def test_kinds_of_bytes(self):
-        for kind in (bytearray, memoryview):
-            self.assertEqual(jelmorand.factors(100, kind(self.BOOK)), jelmorand.factors(100, self.BOOK))
+        backwards = memoryview(self.BOOK[::-1])[::-1]
+        for book in (bytearray(self.BOOK), memoryview(self.BOOK), array.array("I", self.BOOK), backwards):
+            self.assertEqual(jelmorand.factors(100, book), jelmorand.factors(100, self.BOOK))
         for wrong in (8, "book", None, [1, 0]):
             with self.assertRaises(TypeError):
                 jelmorand.factors(100, wrong)
 
+    def test_kinds_of_rates(self):
+        """A rate of 0.18 per hour is not rate 0, and what counts as a whole number is taken."""
+        for wrong in (0.18, 18.0, "18", None, fractions.Fraction(18)):
+            with self.assertRaisesRegex(TypeError, "a rate is a whole number of hundredths of an air change per hour"):
+                jelmorand.factors(wrong, self.BOOK)
+        self.assertEqual(jelmorand.factors(Whole(100), self.BOOK), jelmorand.factors(100, self.BOOK))
 
-def lent_factors_after(periods, book, room):
-    """The answer, and the whole list, every place of which was 7 before the call."""
-    listed = (ctypes.c_uint32 * len(periods))(*periods)
+
+def lent_factors_after(numbers, book, room):
+    """The answer, and the whole list, every place of which was 7 before the call; rate and minutes in turn."""
+    listed = (ctypes.c_uint32 * len(numbers))(*numbers)
     places = (ctypes.c_uint64 * room)(*[7] * room)
-    answer = jelmorand._LIBRARY.jelmorand_factors_after(listed, len(listed), book, len(book), places, room)
+    answer = _library.LIBRARY.jelmorand_factors_after(listed, len(listed), book, len(book), places, room)
     return answer, list(places)
 
 
-def expected_after(periods, book, room):
+def expected_after(numbers, book, room):
     """The same by the reference."""
-    answer = reference.opening_call(periods, book, room)
+    answer = reference.opening_call(numbers, book, room)
     if isinstance(answer, int):
         return -answer, [7] * room
     return len(answer), answer + [7] * (room - len(answer))
+
+
+def paired(numbers):
+    return list(zip(numbers[::2], numbers[1::2]))
 
 
 class FactorsAfter(unittest.TestCase):
@@ -127,75 +151,90 @@ class FactorsAfter(unittest.TestCase):
 
     def test_rows(self):
         """At rate 300 the member keeps 60 of 64 parts each minute and gains one of the parent's, at 6,700 the same of 128."""
-        for periods, factor in (([300, 1], 2**34), ([300, 2], 31 * 2**30)):
+        for periods, factor in (([(300, 1)], 2**34), ([(300, 2)], 31 * 2**30)):
             self.assertEqual(jelmorand.factors_after(periods, self.BOOK), [GRAINS, factor])
-        for periods, factor in (([300, 1, 6_700, 1], 31 * 2**29), ([6_700, 1, 300, 1], 47 * 2**29)):
+        for periods, factor in (([(300, 1), (6_700, 1)], 31 * 2**29), ([(6_700, 1), (300, 1)], 47 * 2**29)):
             self.assertEqual(jelmorand.factors_after(periods, self.BOOK), [GRAINS, factor])
 
     def test_recorded_books(self):
         """Every recorded book after several lists of periods, good and refused, in lists with room and without: every place."""
         lists = ([18, 2, 100_000, 1, 0, 2], [0, 1, 100_001], [0, 1, 100_000], [0, 0], [])
         for count, job in enumerate(recorded_bodies()):
-            for periods in lists:
+            for numbers in lists:
                 for room in (20, count % 17):
-                    self.assertEqual(lent_factors_after(periods, job[48:], room), expected_after(periods, job[48:], room))
+                    self.assertEqual(lent_factors_after(numbers, job[48:], room), expected_after(numbers, job[48:], room))
 
     def test_reference(self):
-        """Random periods with every recorded book: the list, or the refusal's number."""
+        """Random numbers with every recorded book, a last one without its minutes among them: every place."""
         chance = random.Random(5)
         for job in recorded_bodies():
-            periods = any_periods(chance)
+            numbers, room = any_numbers(chance), chance.randint(0, 20)
+            self.assertEqual(lent_factors_after(numbers, job[48:], room), expected_after(numbers, job[48:], room))
+
+    def test_pairs(self):
+        """The same in pairs: the list, or the refusal's number."""
+        chance = random.Random(6)
+        for job in recorded_bodies():
+            periods = paired(any_numbers(chance))
             try:
                 answer = jelmorand.factors_after(periods, job[48:])
             except jelmorand.Refused as refused:
                 answer = refused.number
-            self.assertEqual(answer, reference.opening_call(periods, job[48:], jelmorand.MAX_MEMBERS))
+            numbers = [number for period in periods for number in period]
+            self.assertEqual(answer, reference.opening_call(numbers, job[48:], jelmorand.MAX_MEMBERS))
 
     def test_longest(self):
         """The most periods of the most minutes: a room at one rate comes near the steady factor, from below."""
-        periods = [100, jelmorand.MAX_MINUTES] * jelmorand.MAX_PERIODS
+        periods = [(100, jelmorand.MAX_MINUTES)] * jelmorand.MAX_PERIODS
+        numbers = [100, jelmorand.MAX_MINUTES] * jelmorand.MAX_PERIODS
         steady = jelmorand.factors(100, self.BOOK)[1]
-        self.assertEqual(jelmorand.factors_after(periods, self.BOOK), reference.opening_call(periods, self.BOOK, 2))
+        self.assertEqual(jelmorand.factors_after(periods, self.BOOK), reference.opening_call(numbers, self.BOOK, 2))
         self.assertTrue(steady - 100 < jelmorand.factors_after(periods, self.BOOK)[1] <= steady)
 
     def test_periods_out_of_range(self):
-        for periods in ([], [0], [0, 0], [0, 1_441], [0, 2**32], [0, 2**64 + 1], [0, 1, 100_000], [0, 1] * 33):
+        for periods in ([], [(0, 0)], [(0, 1_441)], [(0, 2**32)], [(0, 2**64 + 1)], [(0, 1), (100_000, 0)], [(0, 1)] * 33):
             self.assertEqual(self.refused(periods, self.BOOK), 22)
             self.assertEqual(self.refused(periods, b""), 22)
-        self.assertEqual(self.refused([0, 1] * 32, b""), 9)
+        self.assertEqual(self.refused([(0, 1)] * 32, b""), 9)
 
     def test_rates_out_of_range(self):
-        for v in (100_001, 2**32 - 1, 2**32, 2**64 + 18):
-            for periods in ([v], [v, 1], [0, 1, v], [0, 0, v, 1]):
+        for rate in (100_001, 2**32 - 1, 2**32, 2**64 + 18):
+            for periods in ([(rate, 1)], [(0, 1), (rate, 0)], [(0, 0), (rate, 1)], [(0, 1)] * 40 + [(rate, 1)]):
                 self.assertEqual(self.refused(periods, self.BOOK), 3)
 
     def test_negative_numbers(self):
-        with self.assertRaisesRegex(ValueError, "the rate is -1: a rate is not negative"):
-            jelmorand.factors_after([-1, 1], self.BOOK)
-        with self.assertRaisesRegex(ValueError, "the number of minutes is -1: a number of minutes is not negative"):
-            jelmorand.factors_after([0, -1], self.BOOK)
+        with self.assertRaisesRegex(ValueError, "-1 is given, and a rate is a whole number"):
+            jelmorand.factors_after([(-1, 1)], self.BOOK)
+        with self.assertRaisesRegex(ValueError, "-1 is given, and a number of minutes is a whole number, not below 0"):
+            jelmorand.factors_after([(0, -1)], self.BOOK)
 
     def test_kinds_of_lists(self):
-        factors = jelmorand.factors_after([0, 480, 200, 60], self.BOOK)
-        for periods in ((0, 480, 200, 60), iter([0, 480, 200, 60])):
+        factors = jelmorand.factors_after([(0, 480), (200, 60)], self.BOOK)
+        for periods in (((0, 480), (200, 60)), iter([(0, 480), (200, 60)]), [[0, 480], [200, 60]]):
             self.assertEqual(jelmorand.factors_after(periods, self.BOOK), factors)
-        for wrong in (100, "100", None, [1.5, 1], [1, 1.5]):
+        for wrong in (100, "100", None, [(1.5, 1)], [(1, 1.5)], [("1", "1")]):
             with self.assertRaises(TypeError):
+                jelmorand.factors_after(wrong, self.BOOK)
+
+    def test_what_is_no_pair(self):
+        """Rate and minutes in turn, as the library takes them, are no pairs."""
+        for wrong in ([0, 480, 200, 60], [(0,)], [(0, 480, 200)], [()], [None]):
+            with self.assertRaisesRegex(TypeError, "a period is a rate and its minutes"):
                 jelmorand.factors_after(wrong, self.BOOK)
 
     def test_kinds_of_bytes(self):
         for kind in (bytearray, memoryview):
-            self.assertEqual(jelmorand.factors_after([100, 9], kind(self.BOOK)), jelmorand.factors_after([100, 9], self.BOOK))
+            self.assertEqual(jelmorand.factors_after([(100, 9)], kind(self.BOOK)), jelmorand.factors_after([(100, 9)], self.BOOK))
         for wrong in (8, "book", None, [1, 0]):
             with self.assertRaises(TypeError):
-                jelmorand.factors_after([100, 9], wrong)
+                jelmorand.factors_after([(100, 9)], wrong)
 
 
 def lent_table(rates, book, room):
     """What is recorded of a table: the answer, and the whole buffer, every byte of which was # before the call."""
     buffer = ctypes.create_string_buffer(b"#" * room, room)
     listed = (ctypes.c_uint32 * len(rates))(*rates)
-    answer = jelmorand._LIBRARY.jelmorand_table(listed, len(listed), book, len(book), buffer, room)
+    answer = _library.LIBRARY.jelmorand_table(listed, len(listed), book, len(book), buffer, room)
     return f"{'written' if answer >= 0 else 'refused'} {abs(answer)}\n{buffer.raw.decode('ascii')}\n"
 
 
@@ -239,7 +278,7 @@ class Tables(unittest.TestCase):
             for rates in ([v], [v, 0], [0, v]):
                 self.assertEqual(self.refused(rates, self.BOOK), 3)
         for rates in ([-1], [0, -1], [100_001, -(2**32)]):
-            with self.assertRaisesRegex(ValueError, "a rate is not negative"):
+            with self.assertRaisesRegex(ValueError, "a rate is a whole number"):
                 jelmorand.table(rates, self.BOOK)
 
     def test_kinds_of_lists(self):
@@ -312,7 +351,7 @@ class LowestRates(unittest.TestCase):
         self.assertEqual(lines, recorded_answers(recorded.LOWEST))
 
     def check_promise(self, job, rate, chance):
-        first = jelmorand._NO_RATE if rate is None else rate
+        first = _limits.NO_RATE if rate is None else rate
         lower = {0, first - 1, chance.randrange(first)} if first else set()
         self.assertFalse(any(is_below(v, job) for v in lower), (rate, job))
         self.assertTrue(rate is None or is_below(rate, job), (rate, job))
@@ -361,49 +400,6 @@ class LowestRates(unittest.TestCase):
         for wrong in (8, "job", None, [1, 0]):
             with self.assertRaises(TypeError):
                 jelmorand.lowest_rate(wrong)
-
-
-class Refusals(unittest.TestCase):
-    HEADER = (ROOT / "bindings" / "c" / "jelmorand.h").read_text("ascii")
-
-    def test_sentences_are_the_header_s(self):
-        listed = re.findall(r"/\* (.*) \*/\n    JELMORAND_[A-Z_]+ = (\d+)", self.HEADER)
-        self.assertEqual({int(number): sentence for sentence, number in listed}, jelmorand.GROUNDS)
-        self.assertEqual(list(jelmorand.GROUNDS), list(range(1, 23)))
-
-    def test_sizes_are_the_header_s(self):
-        self.assertIn(f"#define JELMORAND_REPORT_ROOM {jelmorand.REPORT_ROOM}\n", self.HEADER)
-        self.assertIn(f"#define JELMORAND_MAX_MEMBERS {jelmorand.MAX_MEMBERS}\n", self.HEADER)
-        self.assertIn(f"#define JELMORAND_TABLE_ROOM {jelmorand.TABLE_ROOM}\n", self.HEADER)
-        self.assertIn(f"#define JELMORAND_MAX_RATES {jelmorand.MAX_RATES}\n", self.HEADER)
-        self.assertIn(f"#define JELMORAND_MAX_PERIODS {jelmorand.MAX_PERIODS}\n", self.HEADER)
-        self.assertIn(f"#define JELMORAND_MAX_MINUTES {jelmorand.MAX_MINUTES}\n", self.HEADER)
-        self.assertIn(f"#define JELMORAND_NO_RATE {jelmorand._NO_RATE}\n", self.HEADER)
-
-    def test_what_is_raised(self):
-        with self.assertRaises(jelmorand.Refused) as caught:
-            jelmorand.screen(b"")
-        refused = caught.exception
-        self.assertEqual((refused.number, refused.sentence), (1, "the job has fewer than 48 bytes"))
-        self.assertEqual(str(refused), "refused 1: the job has fewer than 48 bytes")
-        self.assertEqual(pickle.loads(pickle.dumps(refused)).number, 1)
-
-
-class SharedObject(unittest.TestCase):
-    def imported(self, folder, shared_object):
-        """What importing the module in that folder with that JELMORAND_SO writes to standard error."""
-        environment = dict(os.environ, JELMORAND_SO=shared_object, PYTHONPATH=str(pathlib.Path(__file__).resolve().parent))
-        made = subprocess.run([sys.executable, "-B", "-c", "import jelmorand"], cwd=folder, env=environment, capture_output=True, text=True)
-        return made.stderr
-
-    def test_relative_name(self):
-        """A name without a folder means the file in the folder one is in."""
-        used = pathlib.Path(jelmorand._shared_object())
-        self.assertEqual(self.imported(used.parent, used.name), "")
-
-    def test_missing_file(self):
-        self.assertIn("ImportError: /nowhere/libjelmorand.so is not there", self.imported("/", "/nowhere/libjelmorand.so"))
-
 
 if __name__ == "__main__":
     unittest.main()
