@@ -3,28 +3,35 @@
 //! The functions behind this crate are proved to answer what their contracts in `crates/jelmorand` say, for every input. What is not
 //! proved is this crate: that it declares them as they are.
 //!
-//! A job is 48 bytes, followed by a chain book; `docs/FORMAT.md` has the bytes. The job here is a gas alone with an inhalation
-//! risk of 1,000, at 1 pCi/L of indoor air in a home, against a target of 1,610 billionths. Exposure is in quarter hours per day,
-//! 0 to 96; a job written in whole hours, as jobs used to be, must not be passed.
+//! A job is 48 bytes, followed by a chain book; `docs/FORMAT.md` has the bytes, and `Job` and `Book` write them. The job here is a gas
+//! alone with an inhalation risk of 1,000, at 1 pCi/L of indoor air in a home, against a target of 1,610 billionths. Exposure is in
+//! quarter hours per day, 0 to 96; a job written in whole hours, as jobs used to be, must not be passed.
 //!
 //! ```
-//! let mut job = Vec::new();
-//! job.extend(0u32.to_le_bytes()); // rate
-//! job.extend([0, 0, 0, 0]); // risk, indoor air, pCi/L, a zero
-//! job.extend(1_610u32.to_le_bytes()); // target
-//! job.extend(1_000_000u32.to_le_bytes()); // attenuation: none
-//! job.extend(1.0f64.to_le_bytes()); // value
-//! job.extend(0.0f64.to_le_bytes()); // uncertainty
-//! for number in [350u16, 6, 96, 10, 350, 20, 96, 20] {
-//!     job.extend(number.to_le_bytes()); // child, then adult: days, years, quarter hours, breathing
-//! }
-//! let mut book = vec![1, 0]; // one member, no feeds
-//! book.extend(1_000u16.to_le_bytes()); // working level divisor
-//! book.extend([0; 4]);
-//! book.extend(1u64.to_le_bytes()); // half-life
-//! book.extend(1_000u32.to_le_bytes()); // inhalation risk
-//! book.extend([0; 20]); // the other numbers, no first feed, zeros
-//! job.extend(&book);
+//! use jelmorand::{Book, Exposure, Job, Kind, Medium, Member, Unit};
+//!
+//! let mut gas = Book::new(1_000);
+//! gas.member(Member {
+//!     half_life: 330_350_400_000_000,
+//!     inhalation_risk: 1_000,
+//!     submersion_risk: 0,
+//!     inhalation_dose: 0,
+//!     submersion_dose: 0,
+//!     weight: 0,
+//! });
+//! let home = Job {
+//!     rate: 0,
+//!     kind: Kind::Risk,
+//!     medium: Medium::IndoorAir,
+//!     unit: Unit::PciPerL,
+//!     target: 1_610,
+//!     attenuation: 1_000_000, // none
+//!     value: 1.0,
+//!     uncertainty: 0.0,
+//!     exposure: Exposure::RESIDENTIAL,
+//! };
+//! let book = gas.bytes();
+//! let job = home.with_book(&book);
 //!
 //! let report = jelmorand::screen(&job)?;
 //! assert_eq!(report.verdict, jelmorand::Verdict::Below);
@@ -34,8 +41,8 @@
 //!
 //! // The gas has the same risk at every rate, so either none is too low or, with a target of one billionth less, all are.
 //! assert_eq!(jelmorand::lowest_rate(&job)?, Some(0));
-//! job[8..12].copy_from_slice(&1_609u32.to_le_bytes());
-//! assert_eq!(jelmorand::lowest_rate(&job)?, None);
+//! let stricter = Job { target: 1_609, ..home };
+//! assert_eq!(jelmorand::lowest_rate(&stricter.with_book(&book))?, None);
 //!
 //! let mut factors = [0; jelmorand::MAX_MEMBERS];
 //! assert_eq!(jelmorand::factors(18, &book, &mut factors)?, 1);
@@ -53,16 +60,22 @@
 #![deny(unsafe_code)]
 #![warn(missing_docs)]
 
+#[cfg(feature = "std")]
+mod book;
 mod calls;
+mod job;
 mod library;
 mod periods;
 mod refusal;
 mod report;
 mod version;
 
+#[cfg(feature = "std")]
+pub use book::{Book, Member};
 pub use calls::{factors, factors_after, lowest_rate, report_into, table_into};
 #[cfg(feature = "std")]
 pub use calls::{report, table};
+pub use job::{Exposure, Group, Job, Kind, Medium, Unit, JOB_LENGTH};
 pub use refusal::Refusal;
 pub use report::{screen, Factors, Report, Verdict, WorkingLevels};
 pub use version::{library_version, VERSION};
