@@ -9,13 +9,12 @@
 
 #define MEMBERS 16
 #define FEEDS 64
-#define JOB_LENGTH 48
 #define HEADER 8
 #define MEMBER 32
 #define FEED 8
 #define BOOK_LENGTH (HEADER + MEMBERS * MEMBER + FEEDS * FEED)
 
-static uint8_t job[JOB_LENGTH + BOOK_LENGTH];
+static uint8_t job[JELMORAND_JOB_LENGTH + BOOK_LENGTH];
 
 static void put(uint8_t *at, uint64_t number, int bytes)
 {
@@ -65,7 +64,7 @@ static void make_job(void)
     put(job + 42, 25, 2);
     put(job + 44, 32, 2);
     put(job + 46, 60, 2);
-    make_book(job + JOB_LENGTH);
+    make_book(job + JELMORAND_JOB_LENGTH);
 }
 
 int main(int count, char **words)
@@ -74,7 +73,7 @@ int main(int count, char **words)
     static uint8_t text[JELMORAND_REPORT_ROOM];
     make_job();
     if (count == 2 && strcmp(words[1], "factors") == 0)
-        return jelmorand_factors(18, job + JOB_LENGTH, BOOK_LENGTH, factors, MEMBERS) != MEMBERS;
+        return jelmorand_factors(18, job + JELMORAND_JOB_LENGTH, BOOK_LENGTH, factors, MEMBERS) != MEMBERS;
     if (count == 2 && strcmp(words[1], "report") == 0)
         return jelmorand_report(job, sizeof job, text, sizeof text) <= 0 || text[0] != 'f';
     return 2;

@@ -56,6 +56,9 @@ int64_t jelmorand_version(void);
 /* What jelmorand_lowest_rate answers where no rate gives 'below': one more than the highest rate, so no rate itself. */
 #define JELMORAND_NO_RATE 100001
 
+/* The bytes of a job before its chain book. */
+#define JELMORAND_JOB_LENGTH 48
+
 /* The values of a job's bytes 4 to 6. */
 enum jelmorand_kind { JELMORAND_RISK = 0, JELMORAND_DOSE = 1 };
 enum jelmorand_medium { JELMORAND_INDOOR_AIR = 0, JELMORAND_SOIL_GAS = 1, JELMORAND_GROUNDWATER = 2 };

@@ -14,7 +14,6 @@
 #include <string.h>
 #include <ucontext.h>
 
-#define JOB_LENGTH 48
 #define SPACE 65536
 #define WHOLE_JOB 0
 
@@ -43,12 +42,12 @@ static volatile int64_t answer;
 /* The book of the job; one that is too short has none. */
 static size_t book_length(void)
 {
-    return job_length < JOB_LENGTH ? 0 : job_length - JOB_LENGTH;
+    return job_length < JELMORAND_JOB_LENGTH ? 0 : job_length - JELMORAND_JOB_LENGTH;
 }
 
 static void make_call(void)
 {
-    const uint8_t *book = job + JOB_LENGTH;
+    const uint8_t *book = job + JELMORAND_JOB_LENGTH;
     switch (call) {
     case FACTORS:
         answer = jelmorand_factors(rates[1], book, book_length(), factors, JELMORAND_MAX_MEMBERS);

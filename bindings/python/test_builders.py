@@ -184,6 +184,9 @@ class Names(unittest.TestCase):
             listed = ", ".join(f"JELMORAND_{one.name} = {one.value}" for one in named)
             self.assertIn(f"enum jelmorand_{named.__name__.lower()} {{ {listed} }};", HEADER)
 
+    def test_length_is_the_header_s(self):
+        self.assertIn(f"#define JELMORAND_JOB_LENGTH {jelmorand.JOB_LENGTH}\n", HEADER)
+
     def test_exposures_are_the_header_s(self):
         for name in ("RESIDENTIAL", "WORKER"):
             child, adult = getattr(jelmorand, name)

@@ -7,12 +7,9 @@
 import array
 import ctypes
 import fractions
-import os
 import pathlib
 import random
-import re
 import struct
-import subprocess
 import sys
 import unittest
 
@@ -379,14 +376,6 @@ class LowestRates(unittest.TestCase):
             last = 100_000 if rate is None else rate - 1
             self.assertTrue(rate is None or "verdict below\n" in reference.answer(at_rate(rate, job)), (rate, job))
             self.assertFalse(last >= 0 and "verdict below\n" in reference.answer(at_rate(last, job)), (rate, job))
-
-    def test_readme_s_example(self):
-        """The page prints what its lines print."""
-        page = (ROOT / "bindings" / "README.md").read_text("utf-8")
-        lines, printed = re.search(r"<<'END'\n(.*?)\nEND\n```\n\n.*?\n\n(    .*?\n)\n", page, re.DOTALL).groups()
-        environment = dict(os.environ, PYTHONPATH=str(pathlib.Path(__file__).resolve().parent))
-        made = subprocess.run([sys.executable, "-B", "-c", lines], cwd=ROOT, env=environment, capture_output=True, text=True)
-        self.assertEqual(made.stdout, printed.replace("    ", ""), made.stderr)
 
     def test_refusals(self):
         self.assertEqual(self.refused(b""), 1)

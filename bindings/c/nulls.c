@@ -1,0 +1,63 @@
+/* Makes every call with null pointers for lists of length 0, in all combinations with lists that are not. */
+#include "rows.h"
+
+static void check_lists(void)
+{
+    static const uint32_t period[] = {0, 1};
+    uint8_t bytes[128];
+    uint64_t list[2];
+    for (int which = 0; which < 8; which++) {
+        const size_t count = which & 1 ? 2 : 0;
+        const size_t length = which & 2 ? one_feed(bytes, 0) : 0;
+        const size_t room = which & 4 ? 2 : 0;
+        const uint32_t *periods = count > 0 ? period : NULL;
+        const uint8_t *book = length > 0 ? bytes : NULL;
+        uint64_t *out = room > 0 ? list : NULL;
+        const int64_t full = room > 0 ? 2 : -JELMORAND_LIST_TOO_SHORT;
+        const int64_t read = length > 0 ? full : -JELMORAND_BOOK_TOO_SHORT;
+        const int64_t after = jelmorand_factors_after(periods, count, book, length, out, room);
+        expect(jelmorand_factors(0, book, length, out, room) == read, "the factors of null lists");
+        expect(after == (count > 0 ? read : -JELMORAND_PERIODS_OUT_OF_RANGE), "the factors after periods of null lists");
+    }
+}
+
+static void check_jobs(void)
+{
+    uint8_t job[256], out[JELMORAND_REPORT_ROOM];
+    uint64_t list[2];
+    struct jelmorand_figures figures;
+    const size_t length = fan_job(job, 0, 0);
+    expect(jelmorand_report(NULL, 0, NULL, 0) == -JELMORAND_BUFFER_TOO_SHORT, "the report of a null job into null");
+    expect(jelmorand_report(NULL, 0, out, sizeof out) == 10, "the report of a null job");
+    expect(jelmorand_report(job, length, NULL, 0) == -JELMORAND_BUFFER_TOO_SHORT, "the report into null");
+    expect(jelmorand_screen(NULL, 0, &figures, NULL, 0) == -JELMORAND_JOB_TOO_SHORT, "the figures of a null job into null");
+    expect(jelmorand_screen(NULL, 0, &figures, list, 2) == -JELMORAND_JOB_TOO_SHORT, "the figures of a null job");
+    expect(jelmorand_screen(job, length, &figures, NULL, 0) == -JELMORAND_LIST_TOO_SHORT, "the figures with factors into null");
+    expect(jelmorand_lowest_rate(NULL, 0) == -JELMORAND_JOB_TOO_SHORT, "the lowest rate of a null job");
+}
+
+static void check_tables(void)
+{
+    static const uint32_t zero[] = {0};
+    uint8_t bytes[256], text[64];
+    for (int which = 0; which < 8; which++) {
+        const size_t count = which & 1;
+        const size_t length = which & 2 ? one_feed(bytes, 0) : 0;
+        const size_t room = which & 4 ? sizeof text : 0;
+        const uint32_t *rates = count > 0 ? zero : NULL;
+        const uint8_t *book = length > 0 ? bytes : NULL;
+        uint8_t *out = room > 0 ? text : NULL;
+        const int64_t full = room > 0 ? 22 : -JELMORAND_BUFFER_TOO_SHORT;
+        const int64_t read = count > 0 ? full : -JELMORAND_RATE_COUNT_OUT_OF_RANGE;
+        const int64_t answer = jelmorand_table(rates, count, book, length, out, room);
+        expect(answer == (length > 0 ? read : -JELMORAND_BOOK_TOO_SHORT), "the table of null lists");
+    }
+}
+
+int main(void)
+{
+    check_lists();
+    check_jobs();
+    check_tables();
+    return counted("nulls");
+}
