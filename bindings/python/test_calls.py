@@ -59,6 +59,26 @@ def text_of(report):
     return "".join(line + "\n" for line in lines)
 
 
+def lent_figures(job, room):
+    """The answer, the figures and the whole list; each number was 7 before the call."""
+    figures, places = _library.Figures(*[7] * 6), (ctypes.c_uint64 * room)(*[7] * room)
+    answer = _library.LIBRARY.jelmorand_screen(job, len(job), ctypes.byref(figures), places, room)
+    return answer, [getattr(figures, name) for name, _ in figures._fields_], list(places)
+
+
+def expected_figures(text, room):
+    """The same by a report's text."""
+    lines = [line.split(" ") for line in text.splitlines()]
+    factors = [int(line[2]) for line in lines if line[0] == "factor"]
+    refusal = int(lines[0][1]) if lines[0][0] == "refused" else 19 if len(factors) > room else 0
+    if refusal:
+        return -refusal, [7] * 6, [7] * room
+    words = {line[0]: line[1] for line in lines if line[0] != "factor"}
+    verdict = ("below", "close", "above").index(words["verdict"])
+    numbers = [2**64 - 1 if words[name] == "none" else int(words[name]) for name in ("concentration", "level", "equilibrium", "working")]
+    return len(factors), [verdict, *numbers, len(factors)], factors + [7] * (room - len(factors))
+
+
 def screened(job):
     try:
         return text_of(jelmorand.screen(job))
@@ -298,6 +318,12 @@ class Reports(unittest.TestCase):
     def test_recorded_jobs(self):
         texts = [screened(job) for job in recorded_bodies()]
         self.assertEqual(texts, recorded_answers(recorded.JOB))
+
+    def test_recorded_figures(self):
+        """In lists with room and without: every figure and every place, the refused ones too."""
+        for count, (job, text) in enumerate(recorded.read_cases(recorded.JOB)):
+            for room in (20, count % 17):
+                self.assertEqual(lent_figures(job, room), expected_figures(text, room), (room, job))
 
     def test_examples(self):
         for name in ("radon", "thoron", "actinon"):
