@@ -2,13 +2,13 @@
  *
  * Link with libjelmorand.a or libjelmorand.so (x86-64 Linux). All calls but jelmorand_refusal_sentence are proved to answer what is
  * said here for every input, on the condition that a C caller must keep and that nothing checks: each pointer is aligned for its
- * type, and has at least as many elements behind it as the length after it says, where that length is 0 it may be null; `figures`,
+ * type, and has at least as many elements behind it as the length after it says, so it may be null where that length is 0; `figures`,
  * which has no length, is never null; and what `out`, `figures` and `factors` point to overlaps nothing else that is passed. A
  * length is at most PTRDIFF_MAX bytes. None of them allocates, blocks or keeps a pointer, and all may be called from several threads
  * at once. Of the stack a call for factors takes under 2 KB, the others under 4 KB, as measured.
  *
- * Every call answers an int64_t: the answer itself where it is not negative, and minus the number of the refusal otherwise, as in
- *  if (answer == -JELMORAND_BOOK_TOO_SHORT).
+ * Every call answers an int64_t: the answer itself where it is not negative, and minus the number of the refusal otherwise. So a
+ * refusal is met by  if (answer < 0),  and this one by  if (answer == -JELMORAND_BOOK_TOO_SHORT).
  *
  * The bytes of a job and of a chain book are described, with an example, in docs/FORMAT.md. A job's exposure is in quarter hours
  * per day, 0 to 96. It used to be in whole hours, 0 to 24: a job written so would be taken for a quarter of its exposure, so it
@@ -174,8 +174,8 @@ enum jelmorand_verdict { JELMORAND_BELOW = 0, JELMORAND_CLOSE = 1, JELMORAND_ABO
  * factors: where the factors go, in grains as in jelmorand_factors.
  *
  * Accepted, it fills `figures`, writes the first n places of `factors`, no others, and answers n, the number of members, 1 to 16.
- * Refused, it answers minus the refusal's number, and leaves `figures` and `factors` as they were. The length of `factors` is looked
- * at last. */
+ * Refused, it answers minus the refusal's number, and leaves `figures` and `factors` as they were. So look at the answer before the
+ * verdict: one that was 0 before a refusal still is, and 0 is JELMORAND_BELOW. The length of `factors` is looked at last. */
 int64_t jelmorand_screen(const uint8_t *job, size_t job_len, struct jelmorand_figures *figures, uint64_t *factors,
                          size_t factors_len);
 

@@ -11,6 +11,7 @@ use common::periods::in_turn;
 use common::random::Random;
 use common::timing::{best, best_of_each};
 use common::{plain, plain_job, plain_minutes, plain_table};
+use jelmorand::{Exposure, Job, Kind, Medium, Unit};
 use std::hint::black_box;
 use std::time::Duration;
 
@@ -36,22 +37,21 @@ fn time_factors(book: &[u8]) {
     println!("speed: {RATES} rates, 16 members, 64 feeds: proved {proved:?}, plain u128 {rewrite:?}, ratio {ratio:.2}");
 }
 
-/// A dose job in indoor air at 4 pCi/L without uncertainty, for workers, with this book.
-fn job_of(book: &[u8]) -> Vec<u8> {
-    let mut job = vec![0, 0, 0, 0, 1, 0, 0, 0];
-    job.extend(6_195u32.to_le_bytes());
-    job.extend(1_000_000u32.to_le_bytes());
-    job.extend(4f64.to_le_bytes());
-    job.extend(0f64.to_le_bytes());
-    for field in [0, 0, 0, 0, 250, 25, 32, 60u16] {
-        job.extend(field.to_le_bytes());
-    }
-    job.extend(book);
-    job
-}
+/// A dose job in indoor air at 4 pCi/L without uncertainty, for workers.
+const WORKROOM: Job = Job {
+    rate: 0,
+    kind: Kind::Dose,
+    medium: Medium::IndoorAir,
+    unit: Unit::PciPerL,
+    target: 6_195,
+    attenuation: 1_000_000,
+    value: 4.0,
+    uncertainty: 0.0,
+    exposure: Exposure::WORKER,
+};
 
 fn time_report(book: &[u8]) {
-    let (mut job, mut room) = (job_of(book), [0; jelmorand::REPORT_ROOM]);
+    let (mut job, mut room) = (WORKROOM.with_book(book), [0; jelmorand::REPORT_ROOM]);
     let mut proved_job = job.clone();
     let proved = over_rates(|v| {
         proved_job[..4].copy_from_slice(&v.to_le_bytes());
