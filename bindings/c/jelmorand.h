@@ -2,10 +2,10 @@
  *
  * Link with libjelmorand.a or libjelmorand.so (x86-64 Linux). All calls but jelmorand_refusal_sentence are proved to answer what is
  * said here for every input, on the condition that a C caller must keep and that nothing checks: each pointer is aligned for its
- * type, and has at least as many elements behind it as the length after it says, so it may be null where that length is 0; `figures`,
- * which has no length, is never null; and what `out`, `figures` and `factors` point to overlaps nothing else that is passed. A
- * length is at most PTRDIFF_MAX bytes. None of them allocates, blocks or keeps a pointer, and all may be called from several threads
- * at once. Of the stack a call for factors takes under 2 KB, the others under 4 KB, as measured.
+ * type, and has at least as many elements behind it as the length after it says, so it may be null where that length is 0;
+ * `figures`, which has no length, is never null; and what `out`, `figures` and `factors` point to overlaps nothing else that is
+ * passed. A length is at most PTRDIFF_MAX bytes. None of them allocates, blocks or keeps a pointer, and all may be called from
+ * several threads at once. Of the stack a call for factors takes under 2 KB, the others under 4 KB, as measured.
  *
  * Every call answers an int64_t: the answer itself where it is not negative, and minus the number of the refusal otherwise. So a
  * refusal is met by  if (answer < 0),  and this one by  if (answer == -JELMORAND_BOOK_TOO_SHORT).
@@ -34,8 +34,8 @@ extern "C" {
 int64_t jelmorand_version(void);
 
 /* The most members that a book has, so the most places that are written of a list of factors. This size and the next two will grow:
- * the book's next edition has up to 32 members. A program that is not compiled again with the larger ones is refused such a book, with
- * 19 or 21, and never gets more than it lends. */
+ * the book's next edition has up to 32 members. A program that is not compiled again with the larger ones is refused such a book,
+ * with 19 or 21, and never gets more than it lends. */
 #define JELMORAND_MAX_MEMBERS 16
 
 /* No report has more bytes than this. */

@@ -13,7 +13,7 @@ import tempfile
 import unittest
 
 import jelmorand
-from jelmorand import _library, _limits, _screening, _version
+from jelmorand import _library, _limits, _refusals, _screening, _version
 
 ROOT = pathlib.Path(__file__).resolve().parents[2]
 
@@ -59,7 +59,9 @@ class Refusals(unittest.TestCase):
         self.assertEqual(list(jelmorand.GROUNDS), list(range(1, 23)))
 
     def test_unknown_number(self):
-        refused = jelmorand.Refused(23)
+        with self.assertRaises(jelmorand.Refused) as caught:
+            _refusals.answered(-23)
+        refused = caught.exception
         self.assertEqual(str(refused), "refused 23: a ground that this version does not know")
         self.assertEqual(pickle.loads(pickle.dumps(refused)).number, 23)
 

@@ -64,3 +64,16 @@ pub fn table_into(rates: &[u32], book: &[u8], out: &mut [u8]) -> Result<usize, R
 fn text(bytes: &[u8]) -> String {
     core::str::from_utf8(bytes).expect("a text is ASCII").to_owned()
 }
+
+#[cfg(test)]
+mod tests {
+    use super::{answered, Refusal};
+
+    #[test]
+    fn negative_answers_are_refusals() {
+        assert_eq!((answered(0), answered(5)), (Ok(0), Ok(5)));
+        assert_eq!(answered(-3), Err(Refusal::RateTooHigh));
+        assert_eq!(answered(-23), Err(Refusal::Other(23)));
+        assert_eq!(answered(i64::MIN), Err(Refusal::Other(u32::MAX)));
+    }
+}

@@ -96,7 +96,7 @@ pub struct Job {
     pub value: f64,
     /// The meter's uncertainty.
     pub uncertainty: f64,
-    /// How long who is in the room.
+    /// Who is in the room, and for how long.
     pub exposure: Exposure,
 }
 
