@@ -4,8 +4,8 @@
     report = jelmorand.screen(open("room.job", "rb").read())
     print(report.verdict, report.concentration, report.level)
 
-A job is 48 bytes, followed by a chain book; docs/FORMAT.md has the bytes, and Job and Book write them. Its exposure is in quarter hours per day, 0 to 96: a job
-written in whole hours, as jobs used to be, must not be passed.
+A job is 48 bytes, followed by a chain book; docs/FORMAT.md has the bytes, and Job and Book write them. Its exposure is in quarter
+hours per day, 0 to 96: a job written in whole hours, as jobs used to be, must not be passed.
 
 The shared object is the file that JELMORAND_SO names, or libjelmorand.so beside this file. The functions in it are proved to answer
 what their contracts in crates/jelmorand say, for every input; this package, which calls them, is not proved.
