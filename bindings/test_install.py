@@ -14,6 +14,7 @@ import tempfile
 import unittest
 
 BINDINGS = pathlib.Path(__file__).resolve().parent
+PAGE = (BINDINGS / "README.md").read_text("utf-8")
 HEADER = (BINDINGS / "c" / "jelmorand.h").read_text("ascii")
 NUMBER = int(re.search(r"#define JELMORAND_VERSION (\d+)\n", HEADER)[1])
 SERIES = f"{NUMBER // 1_000_000}.{NUMBER // 1_000 % 1_000}"
@@ -124,8 +125,10 @@ class Install(Folder):
 @unittest.skipIf(tried(sys.executable, "-m", "pip", "--version").returncode, "there is no pip")
 class Pip(Folder):
     def pip(self, **environment):
-        words = ("-m", "pip", "install", "--no-index", "--no-compile", "--disable-pip-version-check", "--target", self.folder / "site")
-        return tried(sys.executable, *words, "./python", cwd=BINDINGS, **environment)
+        """The page's line, with a folder of the test's own."""
+        line = re.search(r"^    python3 -m (pip install .*)$", PAGE, re.MULTILINE)[1]
+        words = line.replace("target/site", str(self.folder / "site")).split()
+        return tried(sys.executable, "-B", "-m", *words, cwd=BINDINGS.parent, PIP_NO_COMPILE=1, PIP_DISABLE_PIP_VERSION_CHECK=1, **environment)
 
     def test_package(self):
         """It needs neither variable afterwards, and says which Python it asks for."""
@@ -153,8 +156,7 @@ class Cargo(Folder):
 
     def test_config_lines(self):
         """A project with the page's lines builds without JELMORAND_LIB in the environment."""
-        page = (BINDINGS / "README.md").read_text("utf-8")
-        lines = re.search(r"```toml\n(.*?)```", page, re.DOTALL)[1]
+        lines = re.search(r"```toml\n(.*?)```", PAGE, re.DOTALL)[1]
         run(BINDINGS / "install", self.folder / "target" / "installed")
         manifest = f"""[package]
 name = "user"
