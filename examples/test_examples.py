@@ -1,7 +1,6 @@
 #!/usr/bin/env python3
 """Each example's text turns into its bytes and back, and its stored output is what the reference says of it: the report
-of its job and, of the three gases, the table of its book at the rates of source 000's radon table. The README shows
-what the reference says of a room that opens at eight, and of a workroom's fan.
+of its job and, of the three gases, the table of its book at the rates of source 000's radon table.
 
 Where the programs are built, they are run too: on each example by its name and from standard input, and on what they
 cannot read.
@@ -144,36 +143,6 @@ def opened(*words):
     return output("opening", *words)
 
 
-def shown(text):
-    """Whether the README shows a text, indented."""
-    readme = (HERE.parent / "README.md").read_text(encoding="utf-8")
-    return "\n\n" + "".join(f"    {line}\n" for line in text.splitlines()) + "\n" in readme
-
-
-def verdict_and_level(job):
-    lines = reference.answer(job).splitlines(keepends=True)
-    return "".join(line for line in lines if line.startswith(("verdict", "level")))
-
-
-def check_fitter():
-    """What the README shows of the workroom: its verdict, the lowest rate, and the verdict there; and no rate for the
-    radon example."""
-    workroom, radon = (HERE / "workroom.job").read_bytes(), (HERE / "radon.job").read_bytes()
-    aired = reference.with_rate(90, workroom)
-    assert reference.fan_answer(workroom) == "rate 90\n" and reference.fan_answer(radon) == "rate none\n"
-    assert "verdict above\n" in reference.answer(reference.with_rate(89, workroom))
-    for text in (verdict_and_level(workroom), "rate 90\n", verdict_and_level(aired), "rate none\n"):
-        assert shown(text), text
-
-
-def check_readme():
-    """The two outputs of `opening` in the README are the reference's."""
-    check_fitter()
-    radon = (HERE / "radon.book").read_bytes()
-    assert shown(reference.opening_lines([0, 480, 400, 60], radon))
-    assert shown(reference.opening_every(400, 60, 15, reference.read_book(radon)))
-
-
 PERIODS = ([0, 1], [18, 1_440], [0, 480, 400, 60], [100_000, 7] * 32, [400, 0], [0, 1_441], [0, 1] * 33, [0, 5, 7],
            [0, 5, 100_001])
 EVERY = ((0, 480, 60), (400, 60, 15), (18, 9, 1), (18, 9, 9), (18, 9, 4), (18, 9, 10), (100_000, 1_440, 300))
@@ -231,9 +200,8 @@ def main():
         check(text)
     for gas in GASES:
         check_table(HERE / f"{gas}.txt")
-    check_readme()
-    print(f"{len(texts)} examples agree, {len(GASES)} tables, and what the README shows")
-    say_passed(len(texts) + len(GASES) + 1 + check_programs())
+    print(f"{len(texts)} examples agree, and {len(GASES)} tables")
+    say_passed(len(texts) + len(GASES) + check_programs())
 
 
 if __name__ == "__main__":
