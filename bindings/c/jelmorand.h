@@ -161,8 +161,8 @@ struct jelmorand_figures {
     uint64_t count;         /* how many members the chain has */
 };
 
-/* The verdicts, from best to worst. */
-enum jelmorand_verdict { JELMORAND_BELOW = 0, JELMORAND_CLOSE = 1, JELMORAND_ABOVE = 2 };
+/* The verdicts, from best to worst. 0 is none of them, so that figures which nobody filled clear no room. */
+enum jelmorand_verdict { JELMORAND_BELOW = 1, JELMORAND_CLOSE = 2, JELMORAND_ABOVE = 3 };
 
 /* An equilibrium factor, or working levels, where there is none. */
 #define JELMORAND_NONE UINT64_MAX
@@ -175,7 +175,7 @@ enum jelmorand_verdict { JELMORAND_BELOW = 0, JELMORAND_CLOSE = 1, JELMORAND_ABO
  *
  * Accepted, it fills `figures`, writes the first n places of `factors`, no others, and answers n, the number of members, 1 to 16.
  * Refused, it answers minus the refusal's number, and leaves `figures` and `factors` as they were. So look at the answer before the
- * verdict: one that was 0 before a refusal still is, and 0 is JELMORAND_BELOW. The length of `factors` is looked at last. */
+ * figures, which may be those of an earlier call. The length of `factors` is looked at last. */
 int64_t jelmorand_screen(const uint8_t *job, size_t job_len, struct jelmorand_figures *figures, uint64_t *factors,
                          size_t factors_len);
 

@@ -42,7 +42,7 @@ class Header(unittest.TestCase):
         struct_text = re.search(r"struct jelmorand_figures \{\n(.*?)\};", self.HEADER, re.DOTALL)[1]
         self.assertEqual(re.findall(r"uint64_t (\w+);", struct_text), [name for name, _ in _library.Figures._fields_])
         verdicts = re.search(r"enum jelmorand_verdict \{ (.*) \};", self.HEADER)[1]
-        named = ", ".join(f"JELMORAND_{word.upper()} = {number}" for number, word in enumerate(_screening.VERDICTS))
+        named = ", ".join(f"JELMORAND_{word.upper()} = {number}" for number, word in _screening.VERDICTS.items())
         self.assertEqual(verdicts, named)
 
     def test_declarations(self):

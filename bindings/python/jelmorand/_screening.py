@@ -14,8 +14,8 @@ from ._refusals import answered
 if TYPE_CHECKING:
     from _typeshed import ReadableBuffer as Bytes
 
-VERDICTS = ("below", "close", "above")
-"""The words of the verdicts by their numbers."""
+VERDICTS = {1: "below", 2: "close", 3: "above"}
+"""The words of the verdicts by their numbers; 0 is none."""
 
 NONE = 2**64 - 1
 """An equilibrium factor or a working level where there is none."""

@@ -77,9 +77,9 @@ pub fn screen(job: &[u8]) -> Result<Report, Refusal> {
 
 fn verdict(number: u64) -> Verdict {
     match number {
-        0 => Verdict::Below,
-        1 => Verdict::Close,
-        2 => Verdict::Above,
+        1 => Verdict::Below,
+        2 => Verdict::Close,
+        3 => Verdict::Above,
         _ => panic!("the contracts name no verdict {number}"),
     }
 }
