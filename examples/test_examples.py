@@ -90,6 +90,20 @@ def check_unreadable(name, *more):
     assert output(name, long, *more) == unanswered(f"{long}: File name too long (os error 36)")
 
 
+def check_help(name, usage, data):
+    """`--help` alone prints the usage; with another word beside it, it is a file's name."""
+    assert output(name, "--help") == answered(usage + "\n"), newest(name)
+    assert output(name, data, "--help")[2] == 1
+
+
+def check_text(name, *more):
+    """A text in the place of bytes is refused as any bytes are, with a line that says what it is."""
+    for text in sorted(HERE.glob("*.txt")):
+        out, said, status = output(name, text, *more)
+        assert out.startswith(b"refused ") and status == 0, (name, text)
+        assert said == f"{name}: this is a text: `./jelmorand {name} FILE` reads texts\n", (name, text)
+
+
 def check_jobs(name, said):
     """A program that takes a job: each example by its name and from standard input, an input that is too long, and what
     cannot be read."""
@@ -102,6 +116,8 @@ def check_jobs(name, said):
     check_unreadable(name)
     assert output(name, "one", "two") == unanswered(f"usage: {name} FILE, or {name} < FILE")
     assert output(name) == answered("refused 1\n")
+    check_help(name, f"usage: {name} FILE, or {name} < FILE", HERE / "radon.job")
+    check_text(name)
 
 
 def check_screen():
@@ -133,7 +149,8 @@ def check_table_program():
     for word in ("0.18", "", "-1", "+1", "1e2", "18 ", "x"):
         said = f"table: {word}: a rate is whole hundredths per hour, so 18 for 0.18"
         assert tabled(radon, 18, word) == unanswered(said), word
-    assert tabled(HERE / "radon.txt", 18)[0].startswith(b"refused ")
+    check_text("table", 18)
+    check_help("table", "usage: table BOOKFILE [RATE ...]", radon)
     check_unreadable("table", 18)
     check_unreadable("table")
     assert tabled() == unanswered("usage: table BOOKFILE [RATE ...]")
@@ -145,7 +162,8 @@ def opened(*words):
 
 PERIODS = ([0, 1], [18, 1_440], [0, 480, 400, 60], [100_000, 7] * 32, [400, 0], [0, 1_441], [0, 1] * 33, [0, 5, 7],
            [0, 5, 100_001])
-EVERY = ((0, 480, 60), (400, 60, 15), (18, 9, 1), (18, 9, 9), (18, 9, 4), (18, 9, 10), (100_000, 1_440, 300))
+EVERY = (([0, 480], 60), ([400, 60], 15), ([18, 9], 1), ([18, 9], 9), ([18, 9], 4), ([100_000, 1_440], 300),
+         ([0, 480, 400, 60], 60), ([0, 7, 400, 5, 18, 1, 0, 8], 5), ([0, 1, 18, 1], 2), ([0, 1, 18, 1], 1), ([18, 1] * 32, 31))
 
 
 def check_opening():
@@ -156,26 +174,31 @@ def check_opening():
             said = reference.opening_lines(numbers, data)
             assert opened(path, *numbers) == answered(said), (gas, numbers, newest("opening"))
         book = reference.read_book(data)
-        for v, minutes, every in EVERY:
-            said = reference.opening_every(v, minutes, every, book)
-            assert opened(path, v, minutes, "every", every) == answered(said), (gas, v, minutes, every)
+        for periods, every in EVERY:
+            said = reference.opening_every(periods, every, book)
+            assert said and opened(path, *periods, "every", every) == answered(said), (gas, periods, every)
     check_opening_refusals(HERE / "radon.book")
     check_unreadable("opening", 0, 5)
 
 
 def check_opening_refusals(radon):
     assert opened(radon, 100_001, 5, "every", 1) == answered("refused 3\n")
-    for words in ((0, 1_441, "every", 1), (0, 2**32 + 1), [1] * 1_000):
+    for words in ((0, 1_441, "every", 1), (0, 2**32 + 1), [1] * 1_000, (18,), (0, 5, 18), (18, "every", 1), ("every", 1)):
         assert opened(radon, *words) == answered("refused 22\n"), words
     assert opened(radon, *[1] * 1_001) == unanswered("opening: more than 1,000 numbers")
     assert opened(radon, 0, 5, "every", 0) == unanswered("opening: every 0: N is 1 or more")
+    for periods, every in (((18, 60), 61), ((0, 480, 400, 60), 541), ((18, 60), 10**40)):
+        shown, minutes = min(every, 2**32 - 1), sum(periods[1::2])
+        said = f"opening: every {shown}: the periods have {minutes} minutes, so there is no such line"
+        assert opened(radon, *periods, "every", every) == unanswered(said)
     assert opened(radon, 0, 5, "every", "x") == unanswered("opening: x: N is whole minutes, 1 or more")
     said = "opening: 0.18: a rate is whole hundredths per hour, so 18 for 0.18, and minutes are whole"
     assert opened(radon, "0.18", 5) == unanswered(said)
-    assert opened(HERE / "radon.txt", 0, 5)[0].startswith(b"refused ")
-    usage = "usage: opening BOOKFILE RATE MINUTES [RATE MINUTES ...], or opening BOOKFILE RATE MINUTES every N"
-    for words in ((), (radon,), (radon, 0), (radon, 0, 5, "every"), (radon, 0, 5, "every", 1, 1)):
+    usage = "usage: opening BOOKFILE RATE MINUTES [RATE MINUTES ...] [every N]"
+    for words in ((), (radon,), (radon, 0, 5, "every"), (radon, 0, 5, "every", 1, 1), (radon, "every", "every", 1)):
         assert opened(*words) == unanswered(usage), words
+    check_help("opening", usage, radon)
+    check_text("opening", 0, 5)
 
 
 CHECKS = {"opening": check_opening, "table": check_table_program, "fan": check_fan, "screen": check_screen}

@@ -420,12 +420,14 @@ def minute_line(minute, factors):
     return " ".join((str(minute), *map(entry, factors))) + "\n"
 
 
-def opening_every(v, minutes, every, book):
-    """At one rate, a line for each minute that is a multiple of `every`, from `every` to `minutes`."""
+def opening_every(periods, every, book):
+    """A line for each minute of the periods that is a multiple of `every`, counted from the shut room on."""
+    rates = [v for v, minutes in zip(periods[::2], periods[1::2]) for _ in range(minutes)]
     factors, text = shut_room(book), ""
-    for minute in range(every, minutes + 1, every):
-        factors = minutes_later(v, every, book, factors)
-        text += minute_line(minute, factors)
+    for minute, v in enumerate(rates, 1):
+        factors = minutes_later(v, 1, book, factors)
+        if minute % every == 0:
+            text += minute_line(minute, factors)
     return text
 
 

@@ -523,11 +523,15 @@ def test_opening_text():
     book = one_feed_book()
     assert ref.opening_lines([300, 2], book) == "factor 0 1099511627776\nfactor 1 33285996544\n"
     assert ref.opening_lines([300, 0], book) == "refused 22\n" and ref.opening_lines([100_001], b"") == "refused 3\n"
-    lines = ref.opening_every(300, 5, 2, ref.read_book(book))  # (1 - (15/16)^2) / 4 and (1 - (15/16)^4) / 4
+    lines = ref.opening_every([300, 5], 2, ref.read_book(book))  # (1 - (15/16)^2) / 4 and (1 - (15/16)^4) / 4
     assert lines == "2 1.000E+00 3.027E-02\n4 1.000E+00 5.688E-02\n"
-    assert ref.opening_every(300, 1, 1, ref.read_book(book)) == "1 1.000E+00 1.563E-02\n"  # a 64th: a half, which goes up
-    assert ref.opening_every(300, 4, 5, ref.read_book(book)) == ""
-    assert len(ref.opening_every(18, 1_440, 60, example_book("radon")).splitlines()) == 24
+    assert ref.opening_every([300, 1], 1, ref.read_book(book)) == "1 1.000E+00 1.563E-02\n"  # a 64th: a half, which goes up
+    assert ref.opening_every([300, 4], 5, ref.read_book(book)) == ""
+    two = ref.opening_every([300, 1, 300, 4], 2, ref.read_book(book))  # a period that is cut in two leaves the same minutes
+    assert two == lines
+    changed = ref.opening_every([300, 1, 0, 1], 2, ref.read_book(book))  # the second minute is counted on, at its own rate
+    assert changed.startswith("2 ") and changed != lines.splitlines(keepends=True)[0]
+    assert len(ref.opening_every([18, 1_440], 60, example_book("radon")).splitlines()) == 24
 
 
 # ---- How much fan is enough (R-6) ----------------------------------------------------------------
