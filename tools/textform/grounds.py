@@ -44,7 +44,7 @@ GROUNDS = {
     18: ("The shares out of one member add up to more than 100,000.", "the feed lines from that member"),
     19: ("The list lent to the factor call is shorter than the chain.", "the program that calls; `screen` never says this"),
     20: ("A table has no rate, or more than 200.", "the rates given to `table`"),
-    21: ("The table is longer than the buffer lent to the call.", "the program that calls; `table` never says this"),
+    21: ("The report or the table is longer than the buffer lent to the call.", "the program that calls; no program here says this"),
     22: (
         "A rate has no minutes after it, or there is no period or more than 32, or one has 0 minutes or more than 1,440.",
         "the periods given to `opening`: rate and minutes in turn",
@@ -58,6 +58,6 @@ def explained(number):
 
 
 def table():
-    """The grounds as the README shows them."""
+    """The grounds as docs/REFUSALS.md shows them."""
     rows = [f"| {number} | {wrong} | {look} |" for number, (wrong, look) in GROUNDS.items()]
     return "\n".join(["| number | what is wrong | where to look |", "|---|---|---|"] + rows) + "\n"
