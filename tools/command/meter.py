@@ -8,7 +8,8 @@ from fractions import Fraction
 from math import floor
 import struct
 
-from textform.remarks import MOST, PER_UNIT
+from textform.indoors import PER_UNIT, share_indoors
+from textform.remarks import MOST
 from textform.words import bits_not_below, number_of
 
 from .numerals import decimal
@@ -19,14 +20,9 @@ DIGITS = 4  # of what is shown
 VALUE_AT = 16  # of a job's bytes; its uncertainty follows
 
 
-def shares_indoors(job):
-    """What a concentration in the medium is multiplied by to get that of the room's air."""
-    return (Fraction(1), Fraction(job.attenuation, 10**6), Fraction(434 * job.attenuation, 10**8))[job.medium]
-
-
 def most_in_medium(level, job):
     """The highest whole mBq/m³ in the medium that is no more than the level indoors, and that a job can hold."""
-    share = shares_indoors(job)
+    share = share_indoors(job)
     return min(MOST, floor(level / share)) if share else MOST
 
 

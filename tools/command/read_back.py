@@ -1,13 +1,13 @@
 """What was read, in words and units: from the job's bytes, so that it says what the programs get."""
 
 from textform.hours import hours_text
-from textform.text import EXPOSURES, KINDS, MEDIA, UNITS
+from textform.indoors import HENRY
+from textform.text import EXPOSURES, KINDS, LARGER_UNITS, MEDIA, UNITS
 from textform.words import reading_text
 
 from .numerals import count, decimal, in_a_power, in_words, listed, trimmed
 
 SHOWN_UNITS = {"pCi/m3": "pCi/m³", "Bq/m3": "Bq/m³"}
-LARGER_UNITS = {"Bq/L": 1_000}  # of a text alone, in the unit that its bytes have
 RISK = KINDS.index("risk")
 INDOOR_AIR, GROUNDWATER = MEDIA.index("indoor-air"), MEDIA.index("groundwater")
 
@@ -68,7 +68,7 @@ def carried(job):
     """How the reading gets into the room's air."""
     if job.medium == INDOOR_AIR:
         return ""
-    water = "4.34 and by " if job.medium == GROUNDWATER else ""
+    water = f"{decimal(HENRY, 2)} and by " if job.medium == GROUNDWATER else ""
     return f", multiplied by {water}the attenuation {trimmed(decimal(job.attenuation, 6))}"
 
 

@@ -2,10 +2,8 @@
 
 from typing import NamedTuple
 
-import book as tool
-
-# Each list that the text tool shows, with its kind: the names by which the tool has them.
-LISTS = (("warning", "warnings"), ("to be refused", "grounds"), ("note", "notes"))
+from textform.looks_wrong import warnings
+from textform.remarks import grounds, notes
 
 
 class Line(NamedTuple):
@@ -19,8 +17,8 @@ class Line(NamedTuple):
 
 def remarks_on(job, book):
     """Warnings before notes."""
-    lists = [(kind, getattr(tool, name)(job, book)) for kind, name in LISTS if hasattr(tool, name)]
-    return [Line(kind, remark.line, remark.said) for kind, found in lists for remark in found]
+    lists = {"warning": warnings(job, book), "to be refused": grounds(job, book), "note": notes(job, book)}
+    return [Line(kind, remark.line, remark.said) for kind, found in lists.items() for remark in found]
 
 
 def without_lines(found):

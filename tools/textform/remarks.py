@@ -4,7 +4,6 @@ The limits are those of the nineteen grounds, worked out again here. Nothing is 
 """
 
 from decimal import Decimal
-from fractions import Fraction
 from math import ceil
 from typing import NamedTuple
 
@@ -12,13 +11,13 @@ from .chain import COEFFICIENTS
 from .feeds import SHARES
 from .half_life import half_life_text
 from .hours import MOST_QUARTERS
+from .indoors import PER_UNIT, share_indoors
 from .shares import shares_out
 from .text import GROUP, KINDS, MEDIA, UNITS, Group
 from .words import number_of
 
 MOST = 4_000_000_000  # of a concentration, a coefficient or a weight
 MOST_IN_GROUP = Group(366, 100, MOST_QUARTERS, 100)
-PER_UNIT = (37_000, 37, 1_000)  # mBq/m3 in one of each unit
 LONGEST_PARENT, LONGEST_LATER = 10**15, 60_000 * 10**9  # half-lives in nanoseconds
 
 
@@ -79,8 +78,7 @@ def reading_too_large(job):
     """The first part of the reading that is too large, if any."""
     scale = PER_UNIT[job.unit]
     value, uncertainty = (ceil(number_of(bits) * scale) for bits in (job.value, job.uncertainty))
-    carried = (Fraction(1), Fraction(job.attenuation, 10**6), Fraction(434 * job.attenuation, 10**8))[job.medium]
-    indoors = ceil((value + uncertainty) * carried)
+    indoors = ceil((value + uncertainty) * share_indoors(job))
     parts = {"value": value, "uncertainty": uncertainty, "value and uncertainty": value + uncertainty, "indoors": indoors}
     for word, number in parts.items():
         if number > MOST:
