@@ -20,7 +20,7 @@ from textform.grounds import GROUNDS, explained
 from textform.looks_wrong import warnings
 from textform.remarks import grounds, notes
 from textform.text import read_text
-from textform.words import Mistake, shown
+from textform.words import Mistake, in_line, placed, shown
 
 MANUAL = pathlib.Path(__file__).resolve().parent / "MANUAL.md"
 USAGE = __doc__[__doc__.index("    book.py") : __doc__.index("\n\nA convenience")]
@@ -56,10 +56,6 @@ def quiet_output():
         os.dup2(os.open(os.devnull, os.O_WRONLY), sys.stdout.fileno())
 
 
-def place(path, line):
-    return f"{path}, line {line}" if line else str(path)
-
-
 def encode_file(source, out, book_alone=False):
     """The job or the book of a text. Where there is none, an old one does not stay in its place."""
     check_replaceable(source, out)
@@ -74,7 +70,7 @@ def write_encoded(source, out, book_alone):
     try:
         job, book = read_text(read_source(source))
     except Mistake as mistake:
-        raise Failure(f"{place(source, mistake.line)}: {mistake}")
+        raise Failure(placed(source, in_line(mistake.line, mistake)))
     if book_alone:
         job = None
     data = all_bytes(job, book)
@@ -96,10 +92,10 @@ def write(how, out, data):
 def tell_remarks(source, job, book):
     for what, remarks in (("warning", warnings(job, book)), ("note", notes(job, book))):
         for remark in remarks:
-            tell(f"{place(source, remark.line)}: {what}: {remark.said}")
+            tell(placed(source, in_line(remark.line, f"{what}: {remark.said}")))
     found = grounds(job, book)
     for remark in found:
-        tell(f"{place(source, remark.line)}: to be refused: {remark.said} (ground {remark.ground})")
+        tell(placed(source, in_line(remark.line, f"to be refused: {remark.said} (ground {remark.ground})")))
     if found:
         decider = "screen" if job else "the factor call"
         tell(f"{source}: {decider} decides, not this tool; expect 'refused {found[0].ground}'")
@@ -128,7 +124,7 @@ def decode_file(words):
     try:
         text = decode(data, form, None if names is None else read_source(names))
     except Mistake as mistake:
-        raise Failure(f"{place(names if mistake.in_names else source, mistake.line)}: {mistake}")
+        raise Failure(placed(names if mistake.in_names else source, in_line(mistake.line, mistake)))
     if out is None:
         put(text)
         return

@@ -10,12 +10,12 @@ import time
 
 import reference
 from command import building
-from command.columns import NAME, WORDS
+from command.columns import NAME
 from command.layout import WIDTH
 from command.results import ANSWERS
 from house import EXAMPLES, ROOT, example, house_test
 from textform.encode import encode
-from textform.text import JOB_WORDS
+from textform.text import JOB_WORDS, ROOM_WORDS
 from textform.words import Mistake
 
 BOOK = "examples/workroom.txt"
@@ -44,11 +44,11 @@ def lines_of_chain():
 
 def job_of(room):
     """The bytes of a text that says what a room's cells say."""
-    lines = "".join(f"{word} {cell}\n" for word, cell in room.items() if cell and word in WORDS)
+    lines = "".join(f"{word} {cell}\n" for word, cell in room.items() if cell and word in ROOM_WORDS)
     return encode(lines + lines_of_chain())
 
 
-def table(rooms, words=(NAME, *WORDS), delimiter=",", ending="\n"):
+def table(rooms, words=(NAME, *ROOM_WORDS), delimiter=",", ending="\n"):
     """A table of rooms; each has a name of its own unless it states one."""
     rows = [[{NAME: f"Room {i}", **ROOM, **room}[word] for word in words] for i, room in enumerate(rooms)]
     quoted = ([f'"{cell}"' if delimiter in cell else cell for cell in row] for row in [words, *rows])
@@ -79,7 +79,7 @@ def expected(job):
 def test_answers(home):
     """Each room's answer is the reference's, whatever its columns say, and the order of the columns is free."""
     home.write("chain.txt", lines_of_chain())
-    words = [NAME, *reversed(WORDS)]
+    words = [NAME, *reversed(ROOM_WORDS)]
     for text in (table(ROOMS), table(ROOMS, words)):
         status, out, said, found = screened(home, text, "chain.txt")
         assert (status, said) == (1, "") and len(found) == len(ROOMS)
@@ -161,12 +161,12 @@ def test_spreadsheets(home):
 def test_wrong_columns(home):
     """A column that is wrong, missing or there twice is named, and nothing is written."""
     home.write("chain.txt", lines_of_chain())
-    without = [word for word in WORDS if word != "uncertainty"]
+    without = [word for word in ROOM_WORDS if word != "uncertainty"]
     for text, part in (
         (table([{}], (NAME, *without)), "no column for uncertainty, and no line in chain.txt"),
         (table([{}]).replace("uncertainty", "uncertanty"), "column 'uncertanty': the columns are name, rate"),
-        (table([{}], WORDS), "no column for name"),
-        (table([{}], (NAME, *WORDS, "rate")), "two columns are named rate"),
+        (table([{}], ROOM_WORDS), "no column for name"),
+        (table([{}], (NAME, *ROOM_WORDS, "rate")), "two columns are named rate"),
         (table([{}], (NAME, *JOB_WORDS[:-2])), "no column for exposure (or child and adult)"),
         (table([{}]).replace("name,", "name,,").replace("Room 0,", "Room 0,x,"), "line 2: column 2 has no name"),
         (table([]), "has no rooms"), ("", "is empty"), (table([{}]).replace("worker", '"worker'), "line 2: cannot be parted"),
@@ -303,4 +303,4 @@ def test_manual(home):
         assert "".join(f"    {line}\n" for line in text.splitlines()) in manual, text
     cells = [line.split(" | ")[0].strip("| ") for line in manual.splitlines() if line.startswith("| ")]
     columns = [word for cell in cells for word in cell.split(", ")]
-    assert [word for word in columns if word != "column"] == [NAME, *MANUAL_ORDER, *ANSWERS] and set(MANUAL_ORDER) == set(WORDS)
+    assert [word for word in columns if word != "column"] == [NAME, *MANUAL_ORDER, *ANSWERS] and set(MANUAL_ORDER) == set(ROOM_WORDS)

@@ -1,14 +1,12 @@
 """The columns of a table of rooms: which of a room's lines each of them holds, and which lines the book's text has for all."""
 
-from textform.text import JOB_WORDS
+from textform.text import GROUPS, JOB_WORDS, ROOM_WORDS
 
 from .numerals import listed
 from .tool import Failure
 
 NAME = "name"
-GROUPS = ("child", "adult")
 EXPOSURE = ("exposure",) + GROUPS
-WORDS = JOB_WORDS + ("exposure",)
 KEPT = "#"  # starts the name of a column that is only carried along
 
 
@@ -19,7 +17,7 @@ def columns_of(sheet, name, book_words, book_name):
         word = said.strip().casefold()
         if word in at:
             raise Failure(f"{name}: two columns are named {word}")
-        if word in WORDS or word == NAME:
+        if word in ROOM_WORDS or word == NAME:
             at[word] = number
         elif not word.startswith(KEPT):
             check_empty(sheet, name, number, said)
@@ -30,7 +28,7 @@ def columns_of(sheet, name, book_words, book_name):
 def check_empty(sheet, name, number, said):
     """A column without a name is none, if nothing stands in it."""
     if said.strip():
-        known = f"the columns are {listed((NAME,) + WORDS)}; one that is only to be kept has a name that starts with {KEPT}"
+        known = f"the columns are {listed((NAME,) + ROOM_WORDS)}; one that is only to be kept has a name that starts with {KEPT}"
         raise Failure(f"{name}: column {said.strip()!r}: {known}")
     for line, cells in sheet.rows:
         if len(cells) > number and cells[number].strip():

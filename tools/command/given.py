@@ -2,16 +2,18 @@
 
 from typing import NamedTuple
 
-from textform.decode import decode, is_book
+from textform.decode import JOB, decode, is_book
 from textform.encode import all_bytes
+from textform.files import text_of
+from textform.hours import MOST_QUARTERS
 from textform.text import Text, read_text
 from textform.words import Mistake
 
 from .remarks import Line, remarks_on, without_lines
 from .tool import Failure, read_file
 
-JOB = 48  # bytes, before the book
-DAY = 24  # hours
+DAY = MOST_QUARTERS // 4  # hours
+BOOK_ALONE = "is a book alone: a room needs the lines of a job too, rate to adult"
 OLD = "the bytes count quarter hours: an older job, in whole hours, shows a quarter of them, and is to be encoded again"
 UTF_16 = (b"\xff\xfe", b"\xfe\xff")
 
@@ -33,23 +35,9 @@ def bytes_in(name):
         raise Failure(str(failure).removeprefix(f"{name}: "))
 
 
-def placed(name, why):
-    """A line with the file's name before it: `cellar.txt, line 3: ...`."""
-    return f"{name}, {why}" if why.startswith("line ") else f"{name}: {why}"
-
-
 def is_bytes(data):
     """Every job and every book has a zero byte, and no text has one."""
     return 0 in data
-
-
-def text_of(data):
-    """A text; the mark that some editors put at the start of one (a BOM) is skipped."""
-    try:
-        return data.decode("utf-8-sig")
-    except UnicodeDecodeError as error:
-        said = f"the byte {data[error.start]:#04x} is not text in UTF-8; save the file as UTF-8"
-        raise Mistake(said, data[: error.start].count(b"\n") + 1)
 
 
 def check_not_utf_16(data):
@@ -64,7 +52,7 @@ def job_given(name):
         return text_given(text_of(data))
     check_not_utf_16(data)
     if is_book(data) and not is_book(data[JOB:]):
-        raise Failure("is a book alone: a room needs the lines of a job too, rate to adult")
+        raise Failure(BOOK_ALONE)
     try:
         read = read_text(decode(data, "job"))
     except Mistake:
@@ -81,7 +69,7 @@ def old_hours(job):
 def text_given(source):
     job, book = read_text(source)
     if job is None:
-        raise Mistake("is a book alone: a room needs the lines of a job too, rate to adult")
+        raise Mistake(BOOK_ALONE)
     data = all_bytes(job, book)
     said = {word: " ".join(words) for word, (words, _) in Text(source).fields.items()}
     return Given(data, read_text(decode(data, "job", source)), remarks_on(job, book), said)

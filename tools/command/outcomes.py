@@ -2,9 +2,8 @@
 
 from typing import NamedTuple
 
-from textform.words import Mistake
+from textform.words import Mistake, in_line, placed
 
-from .given import placed
 from .programs import Refused, matched
 from .tool import Failure, put, tell
 from .verdicts import ground_in_words
@@ -21,7 +20,7 @@ def outcome_of(name, answer):
     try:
         return answer(name)
     except Mistake as mistake:
-        return Outcome("refused", "", f"line {mistake.line}: {mistake}" if mistake.line else str(mistake))
+        return Outcome("refused", "", in_line(mistake.line, mistake))
     except Failure as failure:
         return Outcome("unanswered", "", str(failure))
 

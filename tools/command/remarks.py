@@ -4,6 +4,7 @@ from typing import NamedTuple
 
 from textform.looks_wrong import warnings
 from textform.remarks import grounds, notes
+from textform.words import in_line
 
 
 class Line(NamedTuple):
@@ -12,7 +13,7 @@ class Line(NamedTuple):
     said: str
 
     def placed(self):
-        return f"line {self.line}: {self.said}" if self.line else self.said
+        return in_line(self.line, self.said)
 
 
 def remarks_on(job, book):

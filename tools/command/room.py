@@ -4,12 +4,12 @@ import re
 from typing import NamedTuple
 
 from textform.encode import all_bytes
-from textform.text import read_text
-from textform.words import Mistake
+from textform.text import GROUPS, lines_of, read_text, words_of
+from textform.words import Mistake, in_line, placed
 
-from .columns import EXPOSURE, GROUPS, NAME
-from .remarks import remarks_on
+from .columns import EXPOSURE, NAME
 from .numerals import listed
+from .remarks import remarks_on
 
 DECIMAL_COMMA = re.compile(r"[0-9],[0-9]")
 
@@ -19,12 +19,12 @@ class Lines:
 
     def __init__(self, name, source, words):
         self.name, self.words = name, words  # each word of the job that it has, with its line
-        self.lines = re.split(r"\r\n|\r|\n", source)
+        self.lines = lines_of(source)
         self.known = {}
 
     def said(self, word):
         """A line as it stands, without its comment."""
-        return " ".join(self.lines[self.words[word] - 1].split("#")[0].split())
+        return " ".join(words_of(self.lines[self.words[word] - 1]))
 
     def without(self, words):
         if words not in self.known:
@@ -77,7 +77,7 @@ def in_row(mistake, book, cells):
     """A mistake's words. One in the book's text has that place; one in a cell starts with the cell's column already."""
     number = mistake.line - len(book.lines)
     if number <= 0:
-        return f"{book.name}{f', line {mistake.line}' if mistake.line else ''}: {mistake}"
+        return placed(book.name, in_line(mistake.line, mistake))
     if DECIMAL_COMMA.search(cells[number - 1]):
         return f"{mistake}; a decimal has a point and no comma, such as 4.0"
     return str(mistake)

@@ -1,12 +1,13 @@
 """`rooms`: many rooms of one book, a table in and a table out (docs/ROOMS.md)."""
 
 from textform.chain import book_of
-from textform.text import KINDS, Text
-from textform.words import Mistake
+from textform.files import text_of
+from textform.text import KINDS, ROOM_WORDS, Text
+from textform.words import Mistake, in_line, placed
 
 from .building import make_ready
-from .columns import WORDS, columns_of, is_replaced
-from .given import bytes_in, is_bytes, placed, text_of
+from .columns import columns_of, is_replaced
+from .given import bytes_in, is_bytes
 from .judging import judged_all
 from .numerals import listed
 from .results import check_new, write_results
@@ -45,9 +46,8 @@ def read_book(name):
         text = Text(source)
         check_chain(text)
     except (Mistake, Failure) as error:
-        line = getattr(error, "line", 0)
-        raise Failure(placed(name, f"line {line}: {error}" if line else str(error)))
-    return Lines(name, source, {word: line for word, (_, line) in text.fields.items() if word in WORDS})
+        raise Failure(placed(name, in_line(getattr(error, "line", 0), error)))
+    return Lines(name, source, {word: line for word, (_, line) in text.fields.items() if word in ROOM_WORDS})
 
 
 def check_chain(text):

@@ -4,10 +4,10 @@ import csv
 import io
 from typing import NamedTuple
 
-from textform.words import Mistake
+from textform.files import text_of
+from textform.words import Mistake, in_line, placed
 
-from .given import placed, text_of
-from .tool import Failure
+from .tool import Failure, read_file
 
 LONGEST = 100_000_000  # bytes
 DELIMITERS = (";", "\t", ",")
@@ -23,30 +23,19 @@ class Sheet(NamedTuple):
 
 
 def read_sheet(name):
-    data = sheet_bytes(name)
+    data = read_file(name, LONGEST, "")
+    if 0 in data:
+        raise Failure(f"{name}: is no text in UTF-8; save it as CSV in UTF-8")
     try:
         text = text_of(data)
     except Mistake as mistake:
-        raise Failure(placed(name, f"line {mistake.line}: {mistake}"))
+        raise Failure(placed(name, in_line(mistake.line, mistake)))
     delimiter = delimiter_of(text.lstrip().partition("\n")[0])
     rows = [row for row in rows_of(name, text, delimiter) if any(cell.strip() for cell in row[1])]
     if not rows:
         raise Failure(f"{name}: is empty: its first line names the columns")
     ending = "\r\n" if "\r\n" in text else "\n"
     return Sheet(rows[0][1], rows[1:], delimiter, ending, BOM if data.startswith(BOM) else b"")
-
-
-def sheet_bytes(name):
-    try:
-        with open(name, "rb") as file:
-            data = file.read(LONGEST + 1)
-    except OSError as error:
-        raise Failure(f"{name}: {error.strerror or error}")
-    if len(data) > LONGEST:
-        raise Failure(f"{name}: longer than {LONGEST:,} bytes")
-    if 0 in data:
-        raise Failure(f"{name}: is no text in UTF-8; save it as CSV in UTF-8")
-    return data
 
 
 def delimiter_of(first_line):

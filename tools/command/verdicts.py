@@ -1,12 +1,12 @@
 """The verdicts and what else can come of a room: in words, counted, and as an exit status."""
 
 from textform.grounds import GROUNDS
+from textform.target import KINDS
 
 from .numerals import count
 from .tool import CLEARED, FAILED, NOT_CLEARED
 
 OUTCOMES = ("below", "close", "above", "refused", "unanswered")  # from best to worst
-QUANTITIES = ("risk", "dose")  # in the order of a job's kinds
 MEANINGS = {
     "below": "cleared at this rate, for this chain: the exact {} is at most the target",
     "close": "not cleared: the exact {} and the target differ by no more than the rounding can make; measure again or air more",
@@ -15,7 +15,7 @@ MEANINGS = {
 
 
 def meaning(verdict, kind):
-    return f"{verdict}, so {MEANINGS[verdict].format(QUANTITIES[kind])}"
+    return f"{verdict}, so {MEANINGS[verdict].format(KINDS[kind])}"
 
 
 def ground_in_words(ground):

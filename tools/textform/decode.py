@@ -9,6 +9,8 @@ from .target import target_text
 from .text import EXPOSURES, KINDS, MEDIA, UNITS, Group, Text
 from .words import Mistake, reading_text
 
+JOB = 48  # bytes, before the book
+
 
 def is_book(data):
     return len(data) >= 8 and len(data) == 8 + 32 * data[0] + 8 * data[1]
@@ -127,7 +129,7 @@ def decode_book(data, names_source=None):
 
 def decode(data, form=None, names_source=None):
     """The text of the bytes. The form is 'job' or 'book'; None lets the length tell. Names come from another text."""
-    fits = {"book": is_book(data), "job": len(data) >= 48 and is_book(data[48:])}
+    fits = {"book": is_book(data), "job": len(data) >= JOB and is_book(data[JOB:])}
     if form is None and fits["book"] and fits["job"]:
         raise Mistake("the length fits a book alone and a job with its book: say --book or --job")
     if form is None and not fits["book"] and not fits["job"]:
@@ -137,5 +139,5 @@ def decode(data, form=None, names_source=None):
     if form == "book" or (form is None and fits["book"]):
         lines = decode_book(data, names_source)
     else:
-        lines = decode_job(data) + decode_book(data[48:], names_source)
+        lines = decode_job(data) + decode_book(data[JOB:], names_source)
     return "".join(line + "\n" for line in lines)

@@ -4,7 +4,7 @@ import os
 import stat
 
 from .decode import decode
-from .words import Mistake
+from .words import Mistake, in_line, placed
 
 LONGEST_FILE = 1_000_000  # bytes; the longest text and the longest job are far below
 ASIDE = ".old"
@@ -21,25 +21,32 @@ class Failure(Exception):
 # ---- Reading ------------------------------------------------------------------------------------
 
 
-def read_file(path):
+def read_file(path, longest=LONGEST_FILE, otherwise=", so neither a text nor a job"):
     try:
         with open(path, "rb") as file:
-            data = file.read(LONGEST_FILE + 1)
+            data = file.read(longest + 1)
     except OSError as error:
         raise Failure(f"{path}: {error.strerror or error}")
-    if len(data) > LONGEST_FILE:
-        raise Failure(f"{path}: longer than {LONGEST_FILE:,} bytes, so neither a text nor a job")
+    if len(data) > longest:
+        raise Failure(f"{path}: longer than {longest:,} bytes{otherwise}")
     return data
 
 
-def read_source(path):
+def text_of(data):
     """A text; the mark that some editors put at the start of one (a BOM) is skipped."""
-    data = read_file(path)
     try:
         return data.decode("utf-8-sig")
     except UnicodeDecodeError as error:
-        line = data[: error.start].count(b"\n") + 1
-        raise Failure(f"{path}, line {line}: the byte {data[error.start]:#04x} is not text in UTF-8; save the file as UTF-8")
+        said = f"the byte {data[error.start]:#04x} is not text in UTF-8; save the file as UTF-8"
+        raise Mistake(said, data[: error.start].count(b"\n") + 1)
+
+
+def read_source(path):
+    """The text in a file."""
+    try:
+        return text_of(read_file(path))
+    except Mistake as mistake:
+        raise Failure(placed(path, in_line(mistake.line, mistake)))
 
 
 # ---- What is there already ----------------------------------------------------------------------

@@ -12,8 +12,10 @@ MEDIA = ("indoor-air", "soil-gas", "groundwater")
 UNITS = ("pCi/L", "pCi/m3", "Bq/m3")
 LARGER_UNITS = {"Bq/L": 1_000}  # of a text alone, each so many Bq/m3, which is the unit in the bytes
 GROUP = ("days per year", "years", "hours per day", "m3 breathed per day")
-JOB_WORDS = ("rate", "kind", "medium", "unit", "target", "attenuation", "value", "uncertainty", "child", "adult")
-LINE_WORDS = JOB_WORDS + ("exposure", "divisor", "member", "feed", "ends", "surplus")
+GROUPS = ("child", "adult")
+JOB_WORDS = ("rate", "kind", "medium", "unit", "target", "attenuation", "value", "uncertainty", *GROUPS)
+ROOM_WORDS = JOB_WORDS + ("exposure",)
+LINE_WORDS = ROOM_WORDS + ("divisor", "member", "feed", "ends", "surplus")
 
 
 class Group(NamedTuple):
@@ -50,13 +52,22 @@ class Job(NamedTuple):
 # ---- Lines --------------------------------------------------------------------------------------
 
 
+def lines_of(source):
+    return re.split(r"\r\n|\r|\n", source)
+
+
+def words_of(line):
+    """A line's words, without its comment."""
+    return line.split("#")[0].split()
+
+
 class Text:
     """The fields, members, feeds and other shares that the lines of a text say."""
 
     def __init__(self, source):
         self.fields, self.members, self.feeds, self.rests = {}, [], [], []
-        for line, raw in enumerate(re.split(r"\r\n|\r|\n", source), 1):
-            words = raw.split("#")[0].split()
+        for line, raw in enumerate(lines_of(source), 1):
+            words = words_of(raw)
             if words:
                 self.take(words[0], words[1:], line)
 
@@ -88,17 +99,17 @@ class Text:
 
     def has_job(self):
         """Whether there is a job: all of its lines, or none."""
-        given = [word for word in JOB_WORDS + ("exposure",) if word in self.fields]
+        given = [word for word in ROOM_WORDS if word in self.fields]
         missing = [word for word in JOB_WORDS if word not in self.fields]
         if "exposure" in self.fields:
             self.check_exposure_alone()
-            missing = [word for word in missing if word not in ("child", "adult")]
+            missing = [word for word in missing if word not in GROUPS]
         if given and missing:
             raise Mistake(f"the job has no line for {', '.join(missing)}", self.fields[given[0]][1])
         return bool(given)
 
     def check_exposure_alone(self):
-        for word in ("child", "adult"):
+        for word in GROUPS:
             if word in self.fields:
                 named, line = self.fields["exposure"][1], self.fields[word][1]
                 raise Mistake(f"{word}: line {named} gives both groups by name, so leave one of the two out", line)

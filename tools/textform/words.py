@@ -23,6 +23,16 @@ class Mistake(Exception):
         self.line = line
 
 
+def in_line(line, said):
+    """A message with its line before it; 0 is the text as a whole."""
+    return f"line {line}: {said}" if line else str(said)
+
+
+def placed(name, said):
+    """A message with the file's name before it: `cellar.txt, line 3: ...`."""
+    return f"{name}, {said}" if said.startswith("line ") else f"{name}: {said}"
+
+
 def shown(word):
     """A word as a message can show it: short, and without characters that a screen cannot."""
     plain = word if word.isascii() and word.isprintable() else ascii(word)[1:-1]
