@@ -9,8 +9,7 @@ from textform.shares import rest_lines
 from textform.text import Text, read_text
 from textform.words import Mistake
 
-TOP = pathlib.Path(__file__).resolve().parents[1]
-EXAMPLES = TOP / "examples"
+EXAMPLES = pathlib.Path(__file__).resolve().parents[1] / "examples"
 RADON = """\
 rate 18
 kind risk            # a comment
@@ -41,11 +40,6 @@ member A half-life 1ns weight 0 inhalation-risk 0 submersion-risk 0 inhalation-d
 
 def example(name):
     return (EXAMPLES / f"{name}.txt").read_text(encoding="utf-8")
-
-
-def pages():
-    """The README and the pages of docs/, in which what the tool says is shown."""
-    return "\n".join(page.read_text(encoding="utf-8") for page in [TOP / "README.md", *sorted((TOP / "docs").glob("*.md"))])
 
 
 def changed(old, new, text=RADON):

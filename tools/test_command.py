@@ -6,12 +6,11 @@ import subprocess
 import sys
 import tempfile
 
-from samples import pages
+from textform.grounds import GROUNDS
 
 HERE = pathlib.Path(__file__).resolve().parent
 BOOK = HERE / "book.py"
 RADON = HERE.parent / "examples" / "radon.txt"
-REFERENCE = HERE.parent / "docs" / "src" / "reference.py"
 
 
 def run(*words, **more):
@@ -48,78 +47,13 @@ def test_encode_and_decode(folder):
 @folder_test
 def test_book_alone(folder):
     """The book of a text, whether or not the lines of a job stand beside it."""
-    lines = RADON.read_text().splitlines(keepends=True)
-    (folder / "book.txt").write_text("".join(line for line in lines if line.startswith(("divisor", "member", "feed"))))
+    text = RADON.read_text()
+    (folder / "book.txt").write_text(text[text.index("divisor") :])
     for text, words in ((RADON, ["--book"]), (folder / "book.txt", ["--book"]), (folder / "book.txt", [])):
         status, _, said = run("encode", *words, text, folder / "radon.book")
         assert status == 0 and "wrote a book alone" in said and ("screen asks" in said) == (words == []), said
         assert (folder / "radon.book").read_bytes() == RADON.with_suffix(".book").read_bytes()
     assert run("encode", "--job", RADON, folder / "other")[0] == 2
-
-
-@folder_test
-def test_pages(folder):
-    """The README or a page of docs/ shows what encode says and what screen and table write."""
-    shown_there = pages()
-    (folder / "cellar.txt").write_bytes(RADON.read_bytes())
-    shown = [run("encode", "cellar.txt", "cellar.job", cwd=folder)[2]]
-    shown.append(run("encode", "--book", "cellar.txt", "cellar.book", cwd=folder)[2].splitlines()[-1])
-    table = RADON.with_suffix(".table").read_text().splitlines()
-    shown += ["\n".join(table[:4]), "\n".join(line for rate in ("60 ", "18 ") for line in table if line.startswith(rate))]
-    (folder / "cellar.txt").write_text(RADON.read_text().replace("rate 0.18 per hour", "rate 0.18"))
-    shown.append(run("encode", "cellar.txt", "cellar.job", cwd=folder)[2].splitlines()[0])
-    shown += workroom(folder)
-    shown.append(guide(folder))
-    shown += [path.read_text() for path in RADON.parent.glob("*.out") if path.stem not in ("workroom", "groundwater")]
-    for text in shown:
-        assert "".join(f"    {line}\n" for line in text.splitlines()) in shown_there, text
-
-
-def workroom(folder):
-    """A let workroom: its two lines, verdict and level of two shifts, and what encode says of hours that are no quarters."""
-    lines = "child 0 0 0 0\nadult 250 25 7:45 60"
-    home = RADON.read_text().replace("target 1 in 10_000 ", "target 5_400_000 ")
-    (named,) = (line for line in home.splitlines() if line.startswith("exposure residential"))
-
-    def encoded(hours):
-        (folder / "cellar.txt").write_text(home.replace(named, lines.replace("7:45", hours)))
-        return run("encode", "cellar.txt", "cellar.job", cwd=folder)
-
-    shown = [lines]
-    for hours, quarters in (("7:45", 31), ("8", 32)):
-        assert encoded(hours)[0] == 0
-        job = (folder / "cellar.job").read_bytes()
-        assert job[44] == quarters
-        shown.append(verdict_and_level(job))
-    status, _, said = encoded("7.8")
-    assert status == 1
-    return shown + [said.splitlines()[0]]
-
-
-def guide(folder):
-    """Verdict and level of the guide's home at a target one thousandth of a mrem too low."""
-    text = RADON.with_name("guide.txt").read_text()
-    assert text.count("target 6.195 mrem ") == 1
-    (folder / "guide.txt").write_text(text.replace("target 6.195 mrem ", "target 6_194 "))
-    assert run("encode", "guide.txt", "guide.job", cwd=folder)[0] == 0
-    return verdict_and_level((folder / "guide.job").read_bytes())
-
-
-def verdict_and_level(job):
-    return "\n".join(line for line in reported(job).splitlines() if line.startswith(("verdict", "level")))
-
-
-def reported(job):
-    """What the reference says of a job, as screen does."""
-    return subprocess.run([sys.executable, REFERENCE], input=job, capture_output=True, check=True).stdout.decode()
-
-
-@folder_test
-def test_book_alone(folder):
-    text = RADON.read_text()
-    alone = folder / "alone.txt"
-    alone.write_text(text[text.index("divisor") :])
-    assert "wrote a book alone" in run("encode", alone, folder / "alone.book")[2]
 
 
 def test_to_standard_output():
@@ -181,10 +115,11 @@ def test_closed_output():
 def test_explain():
     status, out, _ = run("explain", 8)
     assert status == 0 and out.startswith("8. ") and "4,000,000,000 mBq/m3" in out
-    assert run("explain")[1].count("Where to look") == 22
-    for word in ("0", "23", "x", "08", "9" * 5_000):
+    most = len(GROUNDS)
+    assert run("explain")[1].count("Where to look") == most
+    for word in ("0", most + 1, "x", "08", "9" * 5_000):
         status, _, said = run("explain", word)
-        assert status == 1 and "the grounds are 1 to 22" in said
+        assert status == 1 and f"the grounds are 1 to {most}" in said
 
 
 def test_help():

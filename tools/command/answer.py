@@ -5,7 +5,7 @@ from textform.remarks import MOST
 from .meter import level_on_meter
 from .numerals import decimal
 from .read_back import INDOOR_AIR, medium_of, meter_unit, read_lines
-from .verdicts import ground_in_words, meaning
+from .verdicts import AT_ITS_LARGEST, ground_in_words, meaning
 
 
 def answer_rows(given, report, rate):
@@ -34,10 +34,7 @@ def level_rows(given, report):
     yield "level", f"{report.level:,} mBq/m³ indoors, the highest concentration that is 'below'"
     yield "level", f"{reading} {unit} on the meter{in_medium(job)}, without uncertainty, rounded down"
     if report.level == MOST:
-        yield "warning", (
-            "the level is at its largest: this room cannot be 'close' or 'above', whatever the meter says; "
-            "probably a coefficient is missing"
-        )
+        yield "warning", AT_ITS_LARGEST
 
 
 def in_medium(job):

@@ -28,8 +28,8 @@ def columns_of(sheet, name, book_words, book_name):
 def check_empty(sheet, name, number, said):
     """A column without a name is none, if nothing stands in it."""
     if said.strip():
-        known = f"the columns are {listed((NAME,) + ROOM_WORDS)}; one that is only to be kept has a name that starts with {KEPT}"
-        raise Failure(f"{name}: column {said.strip()!r}: {known}")
+        known = f"the columns are {listed((NAME, *ROOM_WORDS))}"
+        raise Failure(f"{name}: column {said.strip()!r}: {known}; one that is only to be kept has a name that starts with {KEPT}")
     for line, cells in sheet.rows:
         if len(cells) > number and cells[number].strip():
             raise Failure(f"{name}, line {line}: column {number + 1} has no name, and something stands in it")

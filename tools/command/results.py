@@ -4,13 +4,14 @@ import csv
 import io
 import os
 
+from textform.files import write_beside
 from textform.remarks import MOST
 
 from .numerals import decimal
 from .tool import Failure
+from .verdicts import AT_ITS_LARGEST
 
 ANSWERS = ("verdict", "concentration mBq/m3", "level mBq/m3", "lowest rate per hour", "refusal", "warnings")
-LARGEST = "the level is at its largest: probably a coefficient is missing"
 
 
 def check_new(path, others, is_forced):
@@ -52,24 +53,19 @@ def answers(judged):
     if judged.report is None:
         return [judged.kind, "", "", "", judged.why, "; ".join(warnings)]
     report = judged.report
-    warnings += [f"warning: {LARGEST}"] if report.level == MOST else []
+    warnings += [f"warning: {AT_ITS_LARGEST}"] if report.level == MOST else []
     rate = "none" if judged.rate is None else decimal(judged.rate, 2)
     return [judged.kind, report.concentration, report.level, rate, "", "; ".join(warnings)]
 
 
 def write_results(path, sheet, found, is_forced):
-    """The bytes are written beside, and then take the name."""
-    beside = f"{path}.{os.getpid()}.part"
-    try:
-        with open(beside, "xb") as file:
-            file.write(sheet.bom + results_text(sheet, found).encode())
-            file.flush()
-            os.fsync(file.fileno())
+    """A table that has appeared since `check_new` is overwritten no more than one that was there."""
+
+    def check():
         if os.path.lexists(path) and not is_forced:
             raise Failure(f"{path}: has appeared meanwhile, so nothing is written; --force overwrites it")
-        os.replace(beside, path)
+
+    try:
+        write_beside(path, sheet.bom + results_text(sheet, found).encode(), check)
     except OSError as error:
         raise Failure(f"{path}: not written: {error.strerror or error}")
-    finally:
-        if os.path.exists(beside):
-            os.unlink(beside)

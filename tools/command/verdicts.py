@@ -12,6 +12,10 @@ MEANINGS = {
     "close": "not cleared: the exact {} and the target differ by no more than the rounding can make; measure again or air more",
     "above": "not cleared: the exact {} is more than the target",
 }
+AT_ITS_LARGEST = (
+    "the level is at its largest: this room cannot be 'close' or 'above', whatever the meter says; "
+    "probably a coefficient is missing"
+)
 
 
 def meaning(verdict, kind):

@@ -105,17 +105,22 @@ def set_aside(out):
 
 
 def write_file(path, data):
-    """All of the bytes, or the old file as it was: they are written beside it, and then take its name."""
+    """All of the bytes, or the old file as it was."""
     if os.path.exists(path) and not os.path.isfile(path):
         with open(path, "wb") as file:  # such as /dev/stdout: there is no old file
             file.write(data)
         return
-    path = os.path.realpath(path)
+    write_beside(os.path.realpath(path), data)
+
+
+def write_beside(path, data, check=lambda: None):
+    """The bytes are written beside the path, and then take its name and its mode, if the last check lets them."""
     beside = f"{path}.{os.getpid()}.part"
     try:
         write_new(beside, data)
         if os.path.exists(path):
             os.chmod(beside, stat.S_IMODE(os.stat(path).st_mode))
+        check()
         os.replace(beside, path)
     except BaseException:
         if os.path.exists(beside):
