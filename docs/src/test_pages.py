@@ -23,7 +23,7 @@ sys.path.insert(0, str(ROOT / "tools"))
 
 from command.building import is_late  # noqa: E402
 
-PAGES = ("README.md", *(f"docs/{name}.md" for name in ("TEXT", "FAN", "TABLE", "OPENING", "REFUSALS")))
+PAGES = ("README.md", *(f"docs/{name}.md" for name in ("COMMAND", "ROOMS", "TEXT", "FAN", "TABLE", "OPENING", "REFUSALS")))
 INDENT = "    "
 COMMAND = INDENT + "$ "
 PROGRAMS = ("screen", "fan", "table", "opening")
@@ -31,9 +31,9 @@ PROGRAMS = ("screen", "fan", "table", "opening")
 
 def parts_of(page):
     """The page's lines in parts: a command with what it is shown to write, or other lines without a command."""
-    command, lines = None, []
-    for line in page.splitlines(keepends=True):
-        if line.startswith(COMMAND) or (command and not line.startswith(INDENT)):
+    command, lines, page = None, [], page.splitlines(keepends=True)
+    for line, after in zip(page, page[1:] + [""]):
+        if line.startswith(COMMAND) or (command and not is_written(line, after)):
             yield command, lines
             command, lines = None, []
         if line.startswith(COMMAND):
@@ -41,6 +41,11 @@ def parts_of(page):
         else:
             lines.append(line)
     yield command, lines
+
+
+def is_written(line, after):
+    """Whether a line below a command is of what it writes: an empty one is, if more of that comes after it."""
+    return line.startswith(INDENT) or (line == "\n" and after.startswith(INDENT) and not after.startswith(COMMAND))
 
 
 def programs_in(command):
@@ -58,7 +63,7 @@ def written(command, folder):
     env = os.environ | {"PYTHONDONTWRITEBYTECODE": "1", "PYTHONUTF8": "1"}
     said = subprocess.run(command, shell=True, cwd=folder, env=env, stdin=subprocess.DEVNULL, stdout=subprocess.PIPE,
                           stderr=subprocess.STDOUT, timeout=300, check=False)
-    return [INDENT + line + "\n" for line in said.stdout.decode().splitlines()]
+    return [(INDENT + line).rstrip(" ") + "\n" for line in said.stdout.decode().splitlines()]
 
 
 def with_outputs(page):
