@@ -21,18 +21,10 @@ LONG_AGO = 10**9  # seconds; when the sources of the copy were changed
 
 STAND_IN = f"""#!{sys.executable}
 import sys
-sys.path.insert(0, {str(ROOT / "docs" / "src")!r})
-import reference
-def book():
-    return open(sys.argv[1], "rb").read()
+sys.path[:0] = {[str(ROOT / "docs" / "src"), str(ROOT / "tools")]!r}
+import stand_ins
+sys.stdout.write(stand_ins.{{name}}(sys.argv[1:]))
 """
-ANSWERS = {  # what a stand-in prints; those of a table and of periods take the book's file and numbers
-    "screen": "reference.answer(sys.stdin.buffer.read())",
-    "fan": "reference.fan_answer(sys.stdin.buffer.read())",
-    "table": "(lambda said: said if isinstance(said, str) else f'refused {said}\\n')"
-    "(reference.table_call([int(word) for word in sys.argv[2:]], book(), 10**6))",
-    "opening": "reference.opening_lines([int(word) for word in sys.argv[2:]], book())",
-}
 
 
 class House:
@@ -40,7 +32,7 @@ class House:
         self.folder = folder
         shutil.copy(ROOT / "jelmorand", folder)
         shutil.copy(ROOT / "crates.txt", folder)
-        ignored = shutil.ignore_patterns("__pycache__", "test_*", "house.py")
+        ignored = shutil.ignore_patterns("__pycache__", "test_*", "house.py", "stand_ins.py")
         shutil.copytree(ROOT / "tools", folder / "tools", ignore=ignored)
         shutil.copytree(EXAMPLES, folder / "examples")
         for name in crates.listed():
@@ -64,7 +56,7 @@ class House:
         if script is None and not building.is_late(name):
             shutil.copyfile(building.path_of(name), path)
         else:
-            path.write_text(script or f"{STAND_IN}sys.stdout.write({ANSWERS[name]})\n")
+            path.write_text(script or STAND_IN.format(name=name))
         path.chmod(0o755)
 
     def write(self, name, text):

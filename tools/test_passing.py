@@ -37,16 +37,26 @@ def test_table(home):
 
 @house_test
 def test_opening(home):
-    """The factors after periods, and what was given besides reaches the program, the form with `every` included."""
-    book = (EXAMPLES / "radon.book").read_bytes()
+    """The factors after periods, or a line every so many minutes through all of them."""
+    book, periods = (EXAMPLES / "radon.book").read_bytes(), [0, 480, 400, 60]
+    every = reference.opening_every(periods, 60, reference.read_book(book))
+    assert [line.split()[0] for line in every.splitlines()] == [str(60 * hour) for hour in range(1, 10)]
     for form in ("txt", "job", "book"):
-        periods = (0, 480, 400, 60)
-        assert home.run("opening", f"{RADON}.{form}", *periods) == (0, reference.opening_lines(list(periods), book), "")
-    assert home.run("opening", f"{RADON}.txt", 18, 1_441)[:2] == (2, "refused 22\n")
-    words = "/dev/stdin 400 60 every 60"
-    home.put_program("opening", f"#!/bin/sh\n[ \"$*\" = '{words}' ] && echo 60 1.000E+00 7.703E-01\n")
-    assert home.run("opening", f"{RADON}.txt", 400, 60, "every", 60) == (0, "60 1.000E+00 7.703E-01\n", "")
-    assert home.run("opening", f"{RADON}.txt", 400, 60, "every", 61) == (2, "", f"{RADON}.txt: opening: no answer (status 1)\n")
+        name = f"{RADON}.{form}"
+        assert home.run("opening", name, *periods) == (0, reference.opening_lines(periods, book), "")
+        assert home.run("opening", name, *periods, "every", 60) == (0, every, "")
+
+
+@house_test
+def test_opening_refused(home):
+    """A refusal comes out as the program writes it, with words beside it, and what it says instead of an answer does too."""
+    name = f"{RADON}.txt"
+    for words in ((18,), (18, 1_441), (0, 480, 400), (18, 1_441, "every", 60)):
+        status, out, said = home.run("opening", name, *words)
+        assert (status, out) == (2, "refused 22\n") and said.startswith(f"{name}: ground 22: A rate has no minutes"), words
+    assert home.run("opening", name, 0, 1, 100_001)[:2] == (2, "refused 3\n")
+    said = "opening: every 61: the periods have 60 minutes, so there is no such line"
+    assert home.run("opening", name, 18, 60, "every", 61) == (2, "", f"{name}: {said}\n")
 
 
 @house_test
