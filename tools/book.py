@@ -15,10 +15,10 @@ import sys
 
 from textform.decode import decode
 from textform.encode import all_bytes
-from textform.files import Failure, check_replaceable, read_file, read_source, set_aside, write_file, write_new
+from textform.files import Failure, Usage, check_replaceable, is_bytes, read_file, read_source, set_aside, write_file, write_new
 from textform.grounds import GROUNDS, explained
-from textform.looks_wrong import warnings
-from textform.remarks import grounds, notes
+from textform.remarks import grounds
+from textform.said import said_of
 from textform.text import read_text
 from textform.words import Mistake, in_line, placed, shown
 
@@ -90,12 +90,9 @@ def write(how, out, data):
 
 
 def tell_remarks(source, job, book):
-    for what, remarks in (("warning", warnings(job, book)), ("note", notes(job, book))):
-        for remark in remarks:
-            tell(placed(source, in_line(remark.line, f"{what}: {remark.said}")))
+    for line in said_of(job, book):
+        tell(line.whole(source))
     found = grounds(job, book)
-    for remark in found:
-        tell(placed(source, in_line(remark.line, f"to be refused: {remark.said} (ground {remark.ground})")))
     if found:
         decider = "screen" if job else "the factor call"
         tell(f"{source}: {decider} decides, not this tool; expect 'refused {found[0].ground}'")
@@ -112,7 +109,7 @@ def decode_options(words):
         else:
             break
     if len(words) not in (1, 2) or words[0].startswith("--"):
-        raise Failure(f"usage:\n{USAGE}", 2)
+        raise Usage(f"usage:\n{USAGE}")
     return form, names, words[0], (words + [None])[1]
 
 
@@ -121,6 +118,8 @@ def decode_file(words):
     if out is not None and os.path.lexists(out):
         raise Failure(f"{out}: is there already, so it was left as it was; give the text another name")
     data = read_file(source)
+    if data and not is_bytes(data):
+        raise Failure(f"{source}: is no job and no book: it has no zero byte, so it may be a text already")
     try:
         text = decode(data, form, None if names is None else read_source(names))
     except Mistake as mistake:
@@ -151,7 +150,7 @@ def run(words):
     elif words[:1] == ["explain"] and len(words) < 3:
         explain(words[1:])
     else:
-        raise Failure(f"usage:\n{USAGE}", 2)
+        raise Usage(f"usage:\n{USAGE}")
 
 
 def main():

@@ -90,11 +90,15 @@ def test_any_bytes(folder):
     text, job = folder / "text.txt", folder / "text.job"
     text.write_bytes(b"\xef\xbb\xbf" + RADON.read_bytes())  # a BOM
     assert run("encode", text, job)[0] == 0
-    for data, part in ((b"rate 18\n\xff\xfe", "line 2: the byte 0xff is not text in UTF-8"), (b"\0" * 99, "a line starts with"),
+    for data, part in ((b"rate 18\n\xff\xfe", "line 2: the byte 0xff is not text in UTF-8"), (b"\0" * 99, "is no text: it has a zero byte"),
                        (b"a" * 1_000_001, "longer than 1,000,000 bytes"), (b"", "the text is empty")):
         text.write_bytes(data)
         status, _, said = run("encode", text, job)
         assert status == 1 and said.startswith(str(text)) and part in said, said
+    text.write_bytes("rate 18".encode("utf-16"))
+    assert run("encode", text, job)[2] == f"{text}: is text in UTF-16; save the file as UTF-8\n"
+    assert run("encode", RADON.with_suffix(".job"), job)[2].startswith(f"{RADON.with_suffix('.job')}: is no text: it has a zero byte")
+    assert run("decode", RADON)[2] == f"{RADON}: is no job and no book: it has no zero byte, so it may be a text already\n"
     for path in (folder, folder / "none"):
         assert run("encode", path, job)[0] == run("decode", path)[0] == 1
     assert run("encode", "/dev/zero", job)[0] == 1

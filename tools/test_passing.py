@@ -14,11 +14,25 @@ def test_fan(home):
     for path in sorted(EXAMPLES.glob("*.job")):
         said = reference.fan_answer(path.read_bytes())
         for form in ("txt", "job"):
-            assert home.run("fan", f"examples/{path.stem}.{form}") == (0, said, "")
+            assert home.run("fan", f"examples/{path.stem}.{form}")[:2] == (0, said)
+    assert home.run("fan", f"{RADON}.txt") == (0, "rate none\n", "")
     home.write("wrong.txt", example("radon", ("rate 0.18 per hour", "rate 0.18")))
     status, out, said = home.run("fan", "wrong.txt", "examples/workroom.txt", "none")
     assert (status, out) == (2, "examples/workroom.txt\nrate 90\n")
     assert said.startswith("wrong.txt, line 3: rate 0.18: ") and said.endswith("\nnone: No such file or directory\n")
+    assert "\nexamples/workroom.txt, line 7: warning: target 4 in 1_000: more than 1 in 1_000\n" in said
+
+
+@house_test
+def test_warnings(home):
+    """What looks wrong in a book is told beside its table and its factors; of a job's lines nothing is."""
+    text = example("workroom", ("Po-218 half-life 3.10m", "Po-218 half-life 3.10h"))
+    home.write("slow.txt", text)
+    line = text[: text.index("Po-218 half-life")].count("\n") + 1
+    for words in (("table", "slow.txt", 18), ("opening", "slow.txt", 18, 1)):
+        said = f"slow.txt, line {line}: warning: Po-218: half-life 3.1h, where source 000 prints 3.10m\n"
+        status, out, warned = home.run(*words)
+        assert (status, warned) == (0, said) and out
 
 
 @house_test
@@ -81,8 +95,15 @@ def test_usage(home):
     commands = [line.split()[1] for line in out.splitlines()]
     assert commands == ["screen", "rooms", "fan", "table", "opening", "encode", "decode", "explain", "--help"]
     assert home.run("help") == home.run("-h") == (status, out, said)
+    for word in ("--help", "-h"):
+        for name, line in zip(commands[:-1], out.splitlines()):
+            form = " ".join(line.partition("  ")[0].split())
+            assert home.run(name, word) == (0, f"usage: {form}\n", "")
+    assert home.run("screen", "") == home.run("rooms", "a", "", "b") == (
+        2, "", "a word is empty, where a file's name or a number should stand\n")
     for line in ("", "scren x", "--helpp", "screen", "screen --reports x", "rooms a b", "rooms --forced a b c", "fan", "table",
-                 "opening x"):
+                 "opening x", "screen -", "screen -report x", "fan x -h", "table -h x", "rooms a b c d", "encode", "encode x",
+                 "decode", "explain 1 2"):
         words = line.split()
         status, out, said = home.run(*words)
         assert (status, out, said.count("\n")) == (2, "", 1), words

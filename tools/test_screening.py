@@ -151,8 +151,17 @@ def test_report_alone(home):
     both = home.run("screen", "--report", "examples/radon.txt", "none.txt")
     assert both == (2, "examples/radon.txt\n" + (EXAMPLES / "radon.out").read_text(), "none.txt: No such file or directory\n")
     home.write("fast.txt", example("radon", ("rate 0.18 per hour", "rate 100_001")))
-    assert home.run("screen", "--report", "fast.txt") [:2] == (2, "refused 3\n")
-    assert home.run("screen", "--report", "fast.txt")[2].startswith("fast.txt: ground 3: The rate is more than")
+    status, out, said = home.run("screen", "--report", "fast.txt")
+    assert (status, out) == (2, "refused 3\n") and "fast.txt: ground 3: The rate is more than" in said
+    assert "fast.txt, line 3: to be refused: rate 100001: at most 100,000 hundredths per hour (ground 3)\n" in said
+
+
+@house_test
+def test_report_warns(home):
+    """What looks wrong is told beside the program's lines too, and not among them."""
+    status, out, said = home.run("screen", "--report", WORKROOM)
+    assert (status, out) == (1, (EXAMPLES / "workroom.out").read_text())
+    assert said == f"{WORKROOM}, line 7: warning: target 4 in 1_000: more than 1 in 1_000\n"
 
 
 @house_test
@@ -223,12 +232,37 @@ def test_programs_that_disagree(home):
 
 @house_test
 def test_old_hours(home):
-    """A job in whole hours, as they used to be, can be told by its hours alone: it is shown with a quarter of them."""
+    """A job that may be in whole hours, as they used to be, would be cleared by a quarter of them, so it is not judged. One
+    with more hours than a day has cannot be such, and a text says hours."""
     job = bytearray((EXAMPLES / "actinon.job").read_bytes())
-    assert "to be encoded again" not in home.run("screen", "examples/actinon.job")[1]
-    job[44] = 8
-    shown = labelled(home.run("screen", home.write("old.job", bytes(job)))[1])
-    assert "2 hours a day" in shown["read"] and "to be encoded again" in shown["warning"]
+    assert home.run("screen", "examples/actinon.job")[0] == 0
+    for quarters, said in ((8, "2 a day, are 8 a day"), (24, "6 a day, are 24 a day"), (1, "0:15 a day, are 1 a day")):
+        job[44] = quarters
+        home.write("old.job", bytes(job))
+        for words in (("screen",), ("screen", "--report"), ("fan",)):
+            status, out, why = home.run(*words, "old.job")
+            assert (status, out) == (2, "") and why.startswith(f"old.job: its hours, {said} if the job was written in whole hours")
+    assert home.run("decode", "old.job", "mine.txt")[0] == 0 and home.run("screen", "mine.txt")[0] == 0
+    assert home.run("table", "old.job", 18)[0] == 0  # the book has no hours
+    for job[36], job[44] in ((25, 8), (8, 25), (96, 1), (0, 0)):
+        assert "whole hours" not in home.run("screen", home.write("new.job", bytes(job)))[2]
+
+
+@house_test
+def test_job_of_an_older_text(home):
+    """A job is not judged where the text of its name, beside it, says something else: it may be last month's."""
+    good, other = example("actinon"), example("actinon", ("rate 0.6 per hour", "rate 0.5 per hour"))
+    home.write("cellar.job", (EXAMPLES / "actinon.job").read_bytes())
+    home.write("cellar.txt", good + "# a comment\n")
+    assert home.run("screen", "cellar.job")[0] == home.run("screen", "cellar.txt")[0] == 0
+    for text in (other, "rate 0.18\n", "", b"\xff"):
+        home.write("cellar.txt", text)
+        for words in (("screen",), ("screen", "--report"), ("fan",)):
+            said = "cellar.job: is not the job of cellar.txt, which stands beside it: give the text, or encode it again\n"
+            assert home.run(*words, "cellar.job") == (2, "", said)
+    home.write("cellar.txt", other)
+    home.run("encode", "cellar.txt", "cellar.job")
+    assert home.run("screen", "cellar.job")[0] == 0
 
 
 def accepted_jobs():

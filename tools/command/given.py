@@ -1,28 +1,27 @@
 """What the command is given: a text or the bytes of a job or a book, told apart by what is in them, not by the name."""
 
+import os
 from typing import NamedTuple
 
 from textform.decode import JOB, decode, is_book
 from textform.encode import all_bytes
-from textform.files import text_of
-from textform.hours import MOST_QUARTERS
+from textform.files import UTF_16, is_bytes, text_of
+from textform.hours import MOST_QUARTERS, hours_text
+from textform.said import said_of, without_lines
 from textform.text import Text, read_text
 from textform.words import Mistake
 
-from .remarks import Line, remarks_on, without_lines
 from .tool import Failure, read_file
 
 DAY = MOST_QUARTERS // 4  # hours
 BOOK_ALONE = "is a book alone: a room needs the lines of a job too, rate to adult"
-OLD = "the bytes count quarter hours: an older job, in whole hours, shows a quarter of them, and is to be encoded again"
-UTF_16 = (b"\xff\xfe", b"\xfe\xff")
 
 
 class Given(NamedTuple):
-    """A job as it goes to the programs, and the same bytes read back, which is what is shown of it."""
+    """A job or a book as it goes to the programs, and the same bytes read back, which is what is shown of a job."""
 
     data: bytes
-    read: tuple  # the job and the book in the bytes; None where they can't be read
+    read: tuple  # the job and the book in the bytes; None where they can't be read, or are not asked for
     remarks: list
     said: dict = {}  # the text's own words for each line of the job
 
@@ -35,14 +34,12 @@ def bytes_in(name):
         raise Failure(str(failure).removeprefix(f"{name}: "))
 
 
-def is_bytes(data):
-    """Every job and every book has a zero byte, and no text has one."""
-    return 0 in data
-
-
 def check_not_utf_16(data):
     if data[:2] in UTF_16 and not is_book(data[JOB:]):
-        raise Failure("is text in UTF-16; save the file as UTF-8")
+        text_of(data)
+
+
+# ---- A job --------------------------------------------------------------------------------------
 
 
 def job_given(name):
@@ -53,17 +50,37 @@ def job_given(name):
     check_not_utf_16(data)
     if is_book(data) and not is_book(data[JOB:]):
         raise Failure(BOOK_ALONE)
+    check_text_beside(name, data)
     try:
         read = read_text(decode(data, "job"))
     except Mistake:
         return Given(data, None, [])
-    return Given(data, read, [*old_hours(read[0]), *without_lines(remarks_on(*read))])
+    check_hours(read[0], name)
+    return Given(data, read, without_lines(said_of(*read)))
 
 
-def old_hours(job):
-    """Nothing in the bytes tells a job in whole hours, as they used to be, from one in quarters of them."""
-    if any(0 < group.quarter_hours <= DAY for group in (job.child, job.adult)):
-        yield Line("warning", 0, OLD)
+def check_text_beside(name, data):
+    """A job may be older than its text, or have been written of another: then the text counts, and not the job."""
+    text = f"{os.path.splitext(name)[0]}.txt"
+    if text == name or not os.path.isfile(text):
+        return
+    try:
+        is_of_text = all_bytes(*read_text(text_of(bytes_in(text)))) == data
+    except (Mistake, Failure):
+        is_of_text = False
+    if not is_of_text:
+        raise Mistake(f"is not the job of {text}, which stands beside it: give the text, or encode it again")
+
+
+def check_hours(job, name):
+    """Nothing in the bytes tells a job in whole hours, as they used to be, from one in quarters of them, which is judged on
+    four times as much. So a job that could be either is not judged."""
+    quarters = max(job.child.quarter_hours, job.adult.quarter_hours)
+    if 0 < quarters <= DAY:
+        raise Mistake(
+            f"its hours, {hours_text(quarters)} a day, are {quarters} a day if the job was written in whole hours, as jobs used "
+            f"to be: write its text by './jelmorand decode {name} OUT', set the hours right in it, and give the text"
+        )
 
 
 def text_given(source):
@@ -72,16 +89,20 @@ def text_given(source):
         raise Mistake(BOOK_ALONE)
     data = all_bytes(job, book)
     said = {word: " ".join(words) for word, (words, _) in Text(source).fields.items()}
-    return Given(data, read_text(decode(data, "job", source)), remarks_on(job, book), said)
+    return Given(data, read_text(decode(data, "job", source)), said_of(job, book), said)
+
+
+# ---- A book -------------------------------------------------------------------------------------
 
 
 def book_given(name):
     """The book in a file: a text's, a book's bytes, or those that follow a job."""
     data = bytes_in(name)
     if not is_bytes(data):
-        return all_bytes(None, read_text(text_of(data))[1])
+        book = read_text(text_of(data))[1]
+        return Given(all_bytes(None, book), None, said_of(None, book))
     check_not_utf_16(data)
     is_job = is_book(data[JOB:])
     if is_book(data) and is_job:
         raise Failure("fits a book alone and a job with its book; give its text")
-    return data[JOB:] if is_job else data
+    return Given(data[JOB:] if is_job else data, None, [])

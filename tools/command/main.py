@@ -45,6 +45,11 @@ def run(words):
     if not words or words[0] not in COMMANDS or words[0] == "--help":
         said = f"{words[0]}: no such command; " if words else ""
         raise Failure(f"{said}the commands are {', '.join(COMMANDS)}")
+    if words[1:] in (["--help"], ["-h"]):
+        put(f"usage: {form(words[0])}\n")
+        return CLEARED
+    if "" in words:
+        raise Failure("a word is empty, where a file's name or a number should stand")
     try:
         return COMMANDS[words[0]][0](words[1:])
     except Usage:

@@ -4,14 +4,14 @@ A text is made into bytes in memory. `table` and `opening` take their book by a 
 """
 
 import re
-import subprocess
-import sys
+
+import book as tool
 
 from .building import make_ready
 from .given import book_given, job_given
 from .outcomes import lines_outcome, outcome_of, show_lines
-from .programs import RATE, asked
-from .tool import CLEARED, FAILED, TOOL, Usage
+from .programs import RATE
+from .tool import CLEARED, FAILED, Usage, check_files
 
 STANDARD_INPUT = "/dev/stdin"
 TABLE = re.compile(r"(\d+( \d\.\d{3}E[+-]\d\d)+\n)+")
@@ -22,20 +22,19 @@ def to_tool(command):
     """A command of the text tool, in its words."""
 
     def passed(words):
-        done = subprocess.run([sys.executable, TOOL, command, *words], check=False)
-        return CLEARED if done.returncode == 0 else FAILED
+        tool.run([command, *words])
+        return CLEARED
 
     return passed
 
 
 def fan(names):
     """The lowest rate at which each room is 'below'."""
-    if not names or any(name.startswith("--") for name in names):
-        raise Usage
+    check_files(names)
     make_ready(["fan"])
 
     def answer(name):
-        return lines_outcome("fan", RATE, asked("fan", job_given(name).data))
+        return lines_outcome("fan", RATE, job_given(name))
 
     return status_of([show_lines(name, outcome_of(name, answer), len(names) > 1) for name in names])
 
@@ -44,12 +43,13 @@ def of_book(program, form, fewest):
     """A program that takes a book and numbers."""
 
     def passed(words):
-        if len(words) <= fewest or words[0].startswith("--"):
+        check_files(words[:1])
+        if len(words) <= fewest:
             raise Usage
         make_ready([program])
 
         def answer(name):
-            return lines_outcome(program, form, asked(program, book_given(name), STANDARD_INPUT, *words[1:]))
+            return lines_outcome(program, form, book_given(name), STANDARD_INPUT, *words[1:])
 
         return status_of([show_lines(words[0], outcome_of(words[0], answer), False)])
 

@@ -4,12 +4,12 @@ import re
 from typing import NamedTuple
 
 from textform.encode import all_bytes
+from textform.said import said_of
 from textform.text import GROUPS, lines_of, read_text, words_of
 from textform.words import Mistake, in_line, placed
 
 from .columns import EXPOSURE, NAME
 from .numerals import listed
-from .remarks import remarks_on
 
 DECIMAL_COMMA = re.compile(r"[0-9],[0-9]")
 
@@ -51,8 +51,7 @@ def room_of(cells, at, book):
         job, chain = read_text(source)
     except Mistake as mistake:
         raise Mistake(in_row(mistake, book, [said[word] for word in filled]))
-    remarks = remarks_on(job, chain)
-    return Room(all_bytes(job, chain), *parted(remarks, len(book.lines)))
+    return Room(all_bytes(job, chain), *parted(said_of(job, chain), len(book.lines)))
 
 
 def check_filled(said, book_words):

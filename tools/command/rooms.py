@@ -1,27 +1,28 @@
 """`rooms`: many rooms of one book, a table in and a table out (docs/ROOMS.md)."""
 
 from textform.chain import book_of
-from textform.files import text_of
+from textform.files import is_bytes, text_of
 from textform.text import KINDS, ROOM_WORDS, Text
 from textform.words import Mistake, in_line, placed
 
 from .building import make_ready
 from .columns import columns_of, is_replaced
-from .given import bytes_in, is_bytes
+from .given import bytes_in
 from .judging import judged_all
 from .numerals import listed
 from .results import check_new, write_results
 from .room import Lines
 from .sheet import read_sheet
 from .summary import summary
-from .tool import Failure, Usage, put
+from .tool import Failure, Usage, check_files, put
 from .verdicts import status
 
 
 def rooms(words):
     is_forced = words[:1] == ["--force"]
     names = words[1:] if is_forced else words
-    if len(names) != 3 or any(name.startswith("--") for name in names):
+    check_files(names, 3)
+    if len(names) > 3:
         raise Usage
     book_name, rooms_name, results_name = names
     book, sheet = read_book(book_name), read_sheet(rooms_name)

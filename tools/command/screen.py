@@ -5,8 +5,8 @@ from .building import make_ready
 from .given import job_given
 from .layout import rows
 from .outcomes import Outcome, lines_outcome, outcome_of, show_lines
-from .programs import REPORT, Refused, asked, judged, report_of
-from .tool import Failure, Usage, put
+from .programs import REPORT, Refused, judged, report_of
+from .tool import Failure, check_files, put
 from .verdicts import status, tally
 
 
@@ -14,8 +14,7 @@ def screen(words):
     """The exit status, after each file's answer."""
     in_words = words[:1] != ["--report"]
     names = words if in_words else words[1:]
-    if not names or any(name.startswith("--") for name in names):
-        raise Usage
+    check_files(names)
     make_ready(["screen", "fan"] if in_words else ["screen"])
     kinds = [show(name, in_words, len(names) > 1) for name in names]
     if in_words and len(names) > 1:
@@ -39,9 +38,8 @@ def show_words(name, outcome, is_one_of_several):
 
 def report_alone(name):
     """The lines of the proved program."""
-    text = asked("screen", job_given(name).data)
-    outcome = lines_outcome("screen", REPORT, text)
-    return outcome if outcome.kind == "refused" else Outcome(report_of(text).verdict, text)
+    outcome = lines_outcome("screen", REPORT, job_given(name))
+    return outcome if outcome.kind == "refused" else outcome._replace(kind=report_of(outcome.text).verdict)
 
 
 def answer_in_words(name):

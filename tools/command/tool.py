@@ -2,14 +2,15 @@
 
 import pathlib
 
-from book import Failure, put, read_file, tell  # noqa: F401  (for the other modules)
+from book import Failure, Usage, put, read_file, tell  # noqa: F401  (for the other modules)
 
 ROOT = pathlib.Path(__file__).resolve().parents[2]
-TOOL = ROOT / "tools" / "book.py"
-
-
-class Usage(Exception):
-    """The words after a command are none that it takes."""
 
 
 CLEARED, NOT_CLEARED, FAILED = 0, 1, 2  # the exit statuses
+
+
+def check_files(names, fewest=1):
+    """As many files' names as are needed, and none that starts with a dash: it would be an option, and there is no such one."""
+    if len(names) < fewest or any(name.startswith("-") for name in names):
+        raise Usage

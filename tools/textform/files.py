@@ -8,6 +8,7 @@ from .words import Mistake, in_line, placed
 
 LONGEST_FILE = 1_000_000  # bytes; the longest text and the longest job are far below
 ASIDE = ".old"
+UTF_16 = (b"\xff\xfe", b"\xfe\xff")
 
 
 class Failure(Exception):
@@ -16,6 +17,13 @@ class Failure(Exception):
     def __init__(self, message, status=1):
         super().__init__(message)
         self.status = status
+
+
+class Usage(Failure):
+    """The words after a command are none that it takes."""
+
+    def __init__(self, message=""):
+        super().__init__(message, 2)
 
 
 # ---- Reading ------------------------------------------------------------------------------------
@@ -32,8 +40,17 @@ def read_file(path, longest=LONGEST_FILE, otherwise=", so neither a text nor a j
     return data
 
 
+def is_bytes(data):
+    """Every job and every book has a zero byte, and no text has one."""
+    return 0 in data
+
+
 def text_of(data):
     """A text; the mark that some editors put at the start of one (a BOM) is skipped."""
+    if data[:2] in UTF_16:
+        raise Mistake("is text in UTF-16; save the file as UTF-8")
+    if is_bytes(data):
+        raise Mistake("is no text: it has a zero byte, as every job and every book has")
     try:
         return data.decode("utf-8-sig")
     except UnicodeDecodeError as error:
