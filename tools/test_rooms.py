@@ -113,7 +113,7 @@ def test_same_words(home):
         except Mistake as mistake:
             assert (row["verdict"], row["refusal"]) == ("refused", str(mistake)), (row, str(mistake))
         assert [row[word] for word in ANSWERS[1:4]] == ["", "", ""] and f"Room {i}, line {i + 2}: " in out
-    assert out.splitlines()[-1].startswith("below ") and f"{len(found)} rooms: 1 below, 1 above, {len(MISTAKES)} refused" in out
+    assert "\nbelow " in out and f"{len(found)} rooms: 1 below, 1 above, {len(MISTAKES)} refused\n" in out
 
 
 @house_test
@@ -138,7 +138,7 @@ def test_empty_cells_and_names(home):
     assert said[4] == "exposure or child or adult: the cell is empty" and said[5] == "adult: the cell is empty"
     assert "leave one of the two out" in said[6] and said[7] == "value: the cell has more than one line"
     assert [row["verdict"] for row in found] == ["refused"] * 8 + ["below"]
-    assert "Room 8, line 11" not in out and found[8][NAME] == "Room 8"
+    assert "Room 8, line 11: target" in out and found[8][NAME] == "Room 8"
 
 
 @house_test

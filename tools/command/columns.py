@@ -29,6 +29,8 @@ def check_empty(sheet, name, number, said):
     """A column without a name is none, if nothing stands in it."""
     if said.strip():
         known = f"the columns are {listed((NAME, *ROOM_WORDS))}"
+        if len(sheet.header) == 1:
+            known = f"no comma, semicolon or tab parts the columns; {known}"
         raise Failure(f"{name}: column {said.strip()!r}: {known}; one that is only to be kept has a name that starts with {KEPT}")
     for line, cells in sheet.rows:
         if len(cells) > number and cells[number].strip():

@@ -5,6 +5,8 @@ import sys
 from concurrent.futures import ThreadPoolExecutor
 from typing import NamedTuple, Optional
 
+from textform.remarks import MOST
+from textform.said import Line
 from textform.words import Mistake
 
 from .columns import NAME
@@ -12,7 +14,7 @@ from .numerals import listed
 from .programs import Refused, Report, judged
 from .room import room_of
 from .tool import Failure
-from .verdicts import ground_in_words
+from .verdicts import AT_ITS_LARGEST, ground_in_words
 
 
 class Judged(NamedTuple):
@@ -26,6 +28,11 @@ class Judged(NamedTuple):
     why: str = ""
     own: tuple = ()  # what is said of its cells
     shared: tuple = ()  # what is said of the text of the book
+
+    def remarks(self):
+        """What is said of the room: of its cells, and of a level at its largest."""
+        at_its_largest = self.report is not None and self.report.level == MOST
+        return [*self.own, Line("warning", 0, AT_ITS_LARGEST)] if at_its_largest else list(self.own)
 
 
 def judged_all(sheet, at, book):

@@ -7,7 +7,7 @@ import book
 from .passing import FACTORS, TABLE, fan, of_book, to_tool
 from .rooms import rooms
 from .screen import screen
-from .tool import CLEARED, FAILED, Failure, Usage, put, tell
+from .tool import CLEARED, FAILED, STOPPED, Failure, Usage, put, tell
 
 
 def tool_form(command):
@@ -65,5 +65,5 @@ def main(words):
     except Failure as failure:
         tell(failure)
     except KeyboardInterrupt:
-        tell("stopped")
+        tell(STOPPED)
     return FAILED

@@ -10,11 +10,11 @@ from .columns import columns_of, is_replaced
 from .given import bytes_in
 from .judging import judged_all
 from .numerals import listed
-from .results import check_new, write_results
+from .results import check_new, old_aside, write_results
 from .room import Lines
 from .sheet import read_sheet
 from .summary import summary
-from .tool import Failure, Usage, check_files, put
+from .tool import STOPPED, Failure, Usage, check_files, put
 from .verdicts import status
 
 
@@ -24,7 +24,14 @@ def rooms(words):
     check_files(names, 3)
     if len(names) > 3:
         raise Usage
-    book_name, rooms_name, results_name = names
+    try:
+        return answered(*names, is_forced)
+    except (Failure, KeyboardInterrupt) as error:
+        aside = old_aside(names[2], names[:2]) if is_forced else None
+        raise Failure(f"{str(error) or STOPPED}\n{aside}") if aside else error
+
+
+def answered(book_name, rooms_name, results_name, is_forced):
     book, sheet = read_book(book_name), read_sheet(rooms_name)
     at = columns_of(sheet, rooms_name, book.words, book_name)
     if not sheet.rows:
@@ -71,5 +78,8 @@ def shared_lines(book, at, found):
         yield f"{book.name}: the columns count, and not its {listed(others)}\n"
     if common:
         yield f"{book.name}: the same in every room: {'; '.join(map(book.said, common))}\n"
+    if "value" in common:
+        line, said = book.words["value"], book.said("value")
+        yield f"{book.name}, line {line}: {said}: no column for value, so every room has this reading (warning)\n"
     for remark in dict.fromkeys(remark for judged in found for remark in judged.shared):
         yield f"{placed(book.name, f'{remark.placed()} ({remark.kind})')}\n"

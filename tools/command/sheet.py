@@ -30,7 +30,10 @@ def read_sheet(name):
         text = text_of(data)
     except Mistake as mistake:
         raise Failure(placed(name, in_line(mistake.line, mistake)))
-    delimiter = delimiter_of(text.lstrip().partition("\n")[0])
+    first_line = (text.lstrip().splitlines() or [""])[0]
+    if first_line.startswith("sep="):
+        raise Failure(f"{name}: leave out its first line, {first_line}: the first line names the columns")
+    delimiter = delimiter_of(first_line)
     rows = [row for row in rows_of(name, text, delimiter) if any(cell.strip() for cell in row[1])]
     if not rows:
         raise Failure(f"{name}: is empty: its first line names the columns")
@@ -52,4 +55,4 @@ def rows_of(name, text, delimiter):
             yield line, cells
             line = reader.line_num + 1
     except csv.Error as error:
-        raise Failure(f"{name}, line {line}: cannot be parted into cells: {error}")
+        raise Failure(f"{name}, line {line}: cannot be parted into cells, so look at its quotation marks: {error}")

@@ -8,6 +8,7 @@ ROOT = pathlib.Path(__file__).resolve().parents[2]
 
 
 CLEARED, NOT_CLEARED, FAILED = 0, 1, 2  # the exit statuses
+STOPPED = "stopped"
 
 
 def check_files(names, fewest=1):

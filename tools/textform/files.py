@@ -102,8 +102,8 @@ def check_replaceable(source, out):
         raise Failure(f"{out}: {why}, so it was left as it was; give the job another name")
 
 
-def set_aside(out):
-    """The line that says what became of an old job or book after a failure: it must not be taken for the new one."""
+def set_aside(out, of="this text", why_kept=why_kept):
+    """The line that says what became of an old file after a failure: it must not be taken for the new one."""
     if not os.path.isfile(out):
         return None
     old = f"{out}{ASIDE}"
@@ -114,8 +114,8 @@ def set_aside(out):
     except OSError as error:
         why = f"cannot be written: {error.strerror or error}"
     if why:
-        return f"{out}: is the old one, not of this text, and could not be set aside: {old} {why}"
-    return f"{out}: was there, not of this text, so it is set aside as {old}"
+        return f"{out}: is the old one, not of {of}, and could not be set aside: {old} {why}"
+    return f"{out}: was there, not of {of}, so it is set aside as {old}"
 
 
 # ---- Writing ------------------------------------------------------------------------------------
