@@ -3,6 +3,7 @@
 import csv
 import os
 import pty
+import re
 import signal
 import subprocess
 import sys
@@ -170,7 +171,9 @@ def test_wrong_columns(home):
         (table([{}], (NAME, *JOB_WORDS[:-2])), "no column for exposure (or child and adult)"),
         (table([{}]).replace("name,", "name,,").replace("Room 0,", "Room 0,x,"), "line 2: column 2 has no name"),
         (table([]), "has no rooms"), ("", "is empty"), (table([{}]).replace("worker", '"worker'), "line 2: cannot be parted"),
-        (table([{}]).encode("utf-16"), "is no text in UTF-8"),
+        (table([{}]).encode("utf-16"), "is text in UTF-16; save the file as UTF-8"),
+        (table([{}]).replace(",", "|"), "column 'name|rate|"), (table([{}]).replace(",", "|"), "no comma, semicolon or tab parts"),
+        ("sep=;\n" + table([{}], delimiter=";"), "leave out its first line, sep=;"),
         (table([{NAME: "Größe"}]).encode("latin-1"), "line 2: the byte 0xf6 is not text in UTF-8"),
     ):
         home.write("rooms.csv", text)
@@ -191,16 +194,70 @@ def test_nothing_is_overwritten(home):
     home.write("rooms.csv", table([{"rate": "90"}]))
     assert home.run("rooms", BOOK, *words) == (2, "", "out.csv: is there already; --force overwrites it\n")
     assert (home.folder / "out.csv").read_bytes() == first and home.run("rooms", "--force", BOOK, *words)[0] == 0
+    home.write("letter.docx", b"a letter")
     for name in ("rooms.csv", BOOK, "letter.docx", "examples"):
-        if name == "letter.docx":
-            home.write(name, b"a letter")
-        status, out, said = home.run("rooms", "--force", BOOK, "rooms.csv", name)
-        assert (status, out) == (2, "") and said.startswith(f"{name}: is "), said
+        for forced in ([], ["--force"]):
+            status, out, said = home.run("rooms", *forced, BOOK, "rooms.csv", name)
+            assert (status, out) == (2, "") and said.startswith(f"{name}: is ") and "--force overwrites it\n" not in said, said
+    (home.folder / "out.csv").chmod(0o444)
+    assert home.run("rooms", "--force", BOOK, *words)[2].startswith("out.csv: is read-only, so not even --force overwrites it")
     assert (home.folder / "letter.docx").read_bytes() == b"a letter"
     assert (home.folder / "rooms.csv").read_text() == table([{"rate": "90"}])
     status, _, said = home.run("rooms", BOOK, "rooms.csv", "none/out.csv")
     assert status == 2 and "none/out.csv: the folder" in said
     assert not [name for name in home.files() if name.endswith(".part")]
+
+
+@house_test
+def test_old_results_set_aside(home):
+    """After a failure with --force no older table stands where the new one would: its verdicts are of other rooms."""
+    home.write("rooms.csv", table([{}]))
+    assert home.run("rooms", BOOK, "rooms.csv", "out.csv")[0] == 1
+    old, before = (home.folder / "out.csv").read_bytes(), home.files()
+    aside = "out.csv: was there, not of these rooms, so it is set aside as out.csv.old\n"
+    home.write("wrong.csv", table([{}]).replace("uncertainty", "uncertanty"))
+    for words, why in (((BOOK, "wrong.csv"), "wrong.csv: column 'uncertanty'"), (("none.txt", "rooms.csv"), "none.txt: No such")):
+        home.write("out.csv", old)
+        status, out, said = home.run("rooms", "--force", *words, "out.csv")
+        assert (status, out) == (2, "") and said.startswith(why) and said.endswith(f"\n{aside}"), said
+        assert (home.folder / "out.csv.old").read_bytes() == old and not (home.folder / "out.csv").exists()
+    home.write("out.csv", old)
+    home.write("out.csv.old", "a letter")
+    said = home.run("rooms", "--force", BOOK, "wrong.csv", "out.csv")[2]
+    assert said.endswith("could not be set aside: out.csv.old is there already, and is no table of results\n")
+    assert (home.folder / "out.csv").read_bytes() == old and (home.folder / "out.csv.old").read_text() == "a letter"
+    assert home.run("rooms", BOOK, "wrong.csv", "out.csv")[2].count("\n") == 1  # without --force it is nobody's new table
+    assert sorted(home.files()) == sorted([*before, "out.csv.old", "wrong.csv"])
+
+
+@house_test
+def test_rooms_are_no_results(home):
+    """What the rooms are read from is neither overwritten nor set aside, though older answers are carried along in it."""
+    words, room = table([{}]).splitlines()
+    text = f"{words},{','.join(f'# {word}' for word in ANSWERS)}\n{room},below,1,2,3,,\n"
+    home.write("rooms.csv", text)
+    for name in ("rooms.csv", "kept.csv"):
+        home.write("kept.csv", text)
+        status, _, said = home.run("rooms", "--force", BOOK, "rooms.csv", name)
+        assert status == 2 and said.startswith(f"{name}: is ") and said.count("\n") == 1
+        assert (home.folder / name).read_text() == text and not (home.folder / f"{name}.old").exists()
+    assert screened(home, text)[0] == 1
+
+
+@house_test
+def test_warnings(home):
+    """A room may be cleared by what looks wrong, so the summary has it, and a reading that all rooms share."""
+    target = {"target": "1 in 1_000"}
+    _, out, _, found = screened(home, table([target, {**target, "rate": "90 per hour"}, {**target, "rate": "90 per hour"}]))
+    said = "if fan's 'rate 90' was meant, that is 'rate 0.90 per hour'"
+    assert out.splitlines()[-2].startswith("warning        Room 1, line 3 and 1 more room: rate 9_000: 90.00 air changes per hour")
+    assert said in " ".join(out.split()) and [said in row["warnings"] for row in found] == [False, True, True]
+    assert "every room has this reading" not in out
+    home.write("zero.txt", re.sub(r"-risk [0-9_]+", "-risk 0", lines_of_chain()))
+    _, out, _, found = screened(home, table([target]), "zero.txt")
+    assert "Room 0, line 2: the level is at its largest" in out and found[0]["verdict"] == "below"
+    _, out, _, found = screened(home, table([{}, {"rate": "90"}], (NAME, "rate")))
+    assert f"{BOOK}, line 9: value 4.0: no column for value, so every room has this reading (warning)\n" in out
 
 
 @house_test

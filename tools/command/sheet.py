@@ -24,8 +24,6 @@ class Sheet(NamedTuple):
 
 def read_sheet(name):
     data = read_file(name, LONGEST, "")
-    if 0 in data:
-        raise Failure(f"{name}: is no text in UTF-8; save it as CSV in UTF-8")
     try:
         text = text_of(data)
     except Mistake as mistake:
