@@ -51,6 +51,16 @@ def test_attenuation():
             warns(changed("attenuation 1_000_000", f"attenuation {number}", text), said)
 
 
+def test_nothing_read():
+    """A reading of 0 with an uncertainty may be meant, and so may one without."""
+    zero = changed("value 4.0", "value 0")
+    warns(zero)
+    warns(changed("uncertainty 0.5", "uncertainty 0"))
+    said = "line 7: value 0 and uncertainty 0: as if there were no gas, so every room is 'below'"
+    warns(changed("uncertainty 0.5", "uncertainty 0.0", zero), said)
+    assert reference.answer(encode(changed("uncertainty 0.5", "uncertainty 0", zero.replace("target 1_610", "target 0")))).count("below")
+
+
 def test_nobody_exposed():
     """Every group that has years has none of something. One that has years and all of it is enough, and so is none with years."""
     said = ": as if nobody breathed here"

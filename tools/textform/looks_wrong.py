@@ -21,7 +21,7 @@ def warnings(job, book):
     """What looks wrong, in the order of the lines. The job is None in a book alone."""
     found = list(gas_alone(book)) + list(half_lives(book))
     if job is not None:
-        for looked in (rate_high, target_high, attenuation_low, nobody_exposed):
+        for looked in (rate_high, target_high, attenuation_low, nothing_read, nobody_exposed):
             found += looked(job)
         found += nothing_inhaled(job, book)
     return sorted(found, key=lambda remark: remark.line)
@@ -72,6 +72,12 @@ def attenuation_low(job):
         said = f"attenuation {job.attenuation}: millionths, and fewer than {FEWEST_MILLIONTHS}"
         usual = f"source 001 has {USUAL_MILLIONTHS[job.medium]} for {MEDIA[job.medium]}"
         yield Remark(0, job.lines["attenuation"], f"{said}; {usual}")
+
+
+def nothing_read(job):
+    """No meter reads 0 without an uncertainty: more likely the lines are still to be filled in."""
+    if job.value == job.uncertainty == 0:
+        yield Remark(0, job.lines["value"], "value 0 and uncertainty 0: as if there were no gas, so every room is 'below'")
 
 
 def nobody_exposed(job):
