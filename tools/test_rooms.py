@@ -195,7 +195,8 @@ def test_nothing_is_overwritten(home):
     assert home.run("rooms", BOOK, *words) == (2, "", "out.csv: is there already; --force overwrites it\n")
     assert (home.folder / "out.csv").read_bytes() == first and home.run("rooms", "--force", BOOK, *words)[0] == 0
     home.write("letter.docx", b"a letter")
-    for name in ("rooms.csv", BOOK, "letter.docx", "examples"):
+    (home.folder / "link.csv").symlink_to("nowhere")
+    for name in ("rooms.csv", BOOK, "letter.docx", "examples", "link.csv", "/dev/null", "/dev/stdout"):
         for forced in ([], ["--force"]):
             status, out, said = home.run("rooms", *forced, BOOK, "rooms.csv", name)
             assert (status, out) == (2, "") and said.startswith(f"{name}: is ") and "--force overwrites it\n" not in said, said

@@ -183,7 +183,9 @@ def test_no_text_and_no_job(home):
     """One line, and status 2."""
     for name, data, part in (
         ("latin.txt", b"rate 18\nunit Bq/m\xb3\n", ", line 2: the byte 0xb3 is not text in UTF-8"),
-        ("wide.txt", "rate 18".encode("utf-16"), ": is text in UTF-16; save the file as UTF-8"),
+        ("wide.txt", "rate 18".encode("utf-16"), ": is text, and not in UTF-8: it has zero bytes; save the file as UTF-8"),
+        ("wide.txt", example("radon").encode("utf-16-le"), ": is text, and not in UTF-8: it has zero bytes"),
+        ("zero.txt", example("radon").encode() + b"\0", ": is text, and not in UTF-8: it has zero bytes"),
         ("empty.txt", b"", ": "),
         ("radon.book", (EXAMPLES / "radon.book").read_bytes(), ": is a book alone"),
         ("book.txt", example("radon")[example("radon").index("divisor") :], ": is a book alone"),

@@ -34,9 +34,13 @@ def bytes_in(name):
         raise Failure(str(failure).removeprefix(f"{name}: "))
 
 
-def check_not_utf_16(data):
-    if data[:2] in UTF_16 and not is_book(data[JOB:]):
-        text_of(data)
+def check_no_text(data):
+    """Text in UTF-16, or with a zero byte in it, is no job and no book."""
+    if is_book(data) or is_book(data[JOB:]):
+        return
+    kept = data.replace(b"\0", b"").decode(errors="replace")
+    if data[:2] in UTF_16 or (kept and all(sign.isprintable() or sign.isspace() for sign in kept) and "\ufffd" not in kept):
+        raise Mistake("is text, and not in UTF-8: it has zero bytes; save the file as UTF-8")
 
 
 # ---- A job --------------------------------------------------------------------------------------
@@ -47,7 +51,7 @@ def job_given(name):
     data = bytes_in(name)
     if not is_bytes(data):
         return text_given(text_of(data))
-    check_not_utf_16(data)
+    check_no_text(data)
     if is_book(data) and not is_book(data[JOB:]):
         raise Failure(BOOK_ALONE)
     check_text_beside(name, data)
@@ -101,7 +105,7 @@ def book_given(name):
     if not is_bytes(data):
         book = read_text(text_of(data))[1]
         return Given(all_bytes(None, book), None, said_of(None, book))
-    check_not_utf_16(data)
+    check_no_text(data)
     is_job = is_book(data[JOB:])
     if is_book(data) and is_job:
         raise Failure("fits a book alone and a job with its book; give its text")

@@ -11,6 +11,7 @@ from .sheet import DELIMITERS
 from .tool import Failure
 
 LONGEST_HEADER = 100_000  # bytes
+NO_RESULTS = "is there already, and is no table of results"
 ANSWERS = ("verdict", "concentration mBq/m3", "level mBq/m3", "lowest rate per hour", "refusal", "warnings")
 
 
@@ -36,13 +37,15 @@ def why_kept(path):
     """Why a file that is there must stay as it is; None where it may be replaced: a table of results, or an empty file."""
     if not os.path.lexists(path):
         return None
+    if not os.path.isfile(path):
+        return NO_RESULTS  # such as a folder, /dev/stdout, or a link to nowhere
     try:
         with open(path, "rb") as file:
             first = file.readline(LONGEST_HEADER).decode("utf-8-sig", errors="replace").rstrip("\r\n")
     except OSError as error:
         return f"is there already, and cannot be read: {error.strerror or error}"
     if first and not any(first.endswith(mark.join(ANSWERS)) for mark in DELIMITERS):
-        return "is there already, and is no table of results"
+        return NO_RESULTS
     return None if os.access(path, os.W_OK) and os.stat(path).st_mode & 0o222 else "is read-only"
 
 

@@ -1,7 +1,7 @@
 """`rooms`: many rooms of one book, a table in and a table out (docs/ROOMS.md)."""
 
 from textform.chain import book_of
-from textform.files import is_bytes, text_of
+from textform.files import text_of
 from textform.text import KINDS, ROOM_WORDS, Text
 from textform.words import Mistake, in_line, placed
 
@@ -47,10 +47,7 @@ def answered(book_name, rooms_name, results_name, is_forced):
 def read_book(name):
     """The text of the book, with the lines of a job that it has."""
     try:
-        data = bytes_in(name)
-        if is_bytes(data):
-            raise Failure("is no text; `./jelmorand decode` makes one of a job or a book")
-        source = text_of(data)
+        source = text_of(bytes_in(name))
         text = Text(source)
         check_chain(text)
     except (Mistake, Failure) as error:

@@ -50,7 +50,7 @@ def text_of(data):
     if data[:2] in UTF_16:
         raise Mistake("is text in UTF-16; save the file as UTF-8")
     if is_bytes(data):
-        raise Mistake("is no text: it has a zero byte, as every job and every book has")
+        raise Mistake("is no text: it has a zero byte, as every job and every book has; 'decode' makes a text of those")
     try:
         return data.decode("utf-8-sig")
     except UnicodeDecodeError as error:
