@@ -217,7 +217,7 @@ def test_no_answer_is_taken_for_one(home):
         home.put_program(name)
     home.program("screen").chmod(stat.S_IRUSR)
     status, out, said = home.run("screen", "--report", WORKROOM)
-    assert (status, out) == (2, "") and "no answer" in said
+    assert (status, out, said) == (2, "", f"{WORKROOM}: screen: no answer: Permission denied\n")
 
 
 @house_test
@@ -245,6 +245,9 @@ def test_old_hours(home):
             status, out, why = home.run(*words, "old.job")
             assert (status, out) == (2, "") and why.startswith(f"old.job: its hours, {said} if the job was written in whole hours")
     assert home.run("decode", "old.job", "mine.txt")[0] == 0 and home.run("screen", "mine.txt")[0] == 0
+    text = (home.folder / "mine.txt").read_text()
+    assert "\nadult 250 25 0:15 60  # or 1 hours, if the job was written in whole hours, as jobs used to be\n" in text
+    assert "\nchild 0 0 0 0\n" in text
     assert home.run("table", "old.job", 18)[0] == 0  # the book has no hours
     for job[36], job[44] in ((25, 8), (8, 25), (96, 1), (0, 0)):
         assert "whole hours" not in home.run("screen", home.write("new.job", bytes(job)))[2]

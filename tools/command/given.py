@@ -6,14 +6,13 @@ from typing import NamedTuple
 from textform.decode import JOB, decode, is_book
 from textform.encode import all_bytes
 from textform.files import UTF_16, is_bytes, text_of
-from textform.hours import MOST_QUARTERS, hours_text
+from textform.hours import hours_text, may_be_whole_hours
 from textform.said import said_of, without_lines
 from textform.text import Text, read_text
 from textform.words import Mistake
 
 from .tool import Failure, read_file
 
-DAY = MOST_QUARTERS // 4  # hours
 BOOK_ALONE = "is a book alone: a room needs the lines of a job too, rate to adult"
 
 
@@ -77,10 +76,10 @@ def check_text_beside(name, data):
 
 
 def check_hours(job, name):
-    """Nothing in the bytes tells a job in whole hours, as they used to be, from one in quarters of them, which is judged on
-    four times as much. So a job that could be either is not judged."""
-    quarters = max(job.child.quarter_hours, job.adult.quarter_hours)
-    if 0 < quarters <= DAY:
+    """A job in whole hours would be judged on a quarter of them, so one that may be such is not judged."""
+    both = job.child.quarter_hours, job.adult.quarter_hours
+    if may_be_whole_hours(*both):
+        quarters = max(both)
         raise Mistake(
             f"its hours, {hours_text(quarters)} a day, are {quarters} a day if the job was written in whole hours, as jobs used "
             f"to be: write its text by './jelmorand decode {name} OUT', set the hours right in it, and give the text"

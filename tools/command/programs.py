@@ -42,8 +42,10 @@ def asked(name, data, *words):
     """The lines that a program writes for what it is given."""
     try:
         done = subprocess.run([path_of(name), *words], input=data, capture_output=True, timeout=LONGEST, check=False)
-    except (OSError, subprocess.TimeoutExpired) as error:
-        raise Failure(f"{name}: no answer: {error}")
+    except OSError as error:
+        raise Failure(f"{name}: no answer: {error.strerror or error}")
+    except subprocess.TimeoutExpired:
+        raise Failure(f"{name}: no answer within {LONGEST} seconds")
     said = done.stderr.decode(errors="replace").strip().removeprefix(f"{name}: ")
     if done.returncode != 0 or not done.stdout:
         raise Failure(f"{name}: {said or f'no answer (status {done.returncode})'}")

@@ -4,9 +4,10 @@ import struct
 
 from .chain import COEFFICIENTS, numbers_of_names
 from .half_life import half_life_text
+from .hours import may_be_whole_hours
 from .shares import rest_lines
 from .target import target_text
-from .text import EXPOSURES, KINDS, MEDIA, UNITS, Group, Text
+from .text import EXPOSURES, GROUPS, KINDS, MEDIA, UNITS, Group, Text
 from .words import Mistake, reading_text
 
 JOB = 48  # bytes, before the book
@@ -25,8 +26,16 @@ def need_zero(data, where):
         raise Mistake(f"a zero byte of {where} isn't zero, so no text says the same")
 
 
+def old_hours(group):
+    """What a group's hours are if the job is an old one."""
+    hours = group.quarter_hours
+    return f"  # or {hours} hours, if the job was written in whole hours, as jobs used to be" if hours else ""
+
+
 def group_lines(child, adult):
-    numbers = [" ".join(("child", *child.words())), " ".join(("adult", *adult.words()))]
+    numbers = [" ".join((word, *group.words())) for word, group in zip(GROUPS, (child, adult))]
+    if may_be_whole_hours(child.quarter_hours, adult.quarter_hours):
+        return [f"{line}{old_hours(group)}" for line, group in zip(numbers, (child, adult))]
     for name, groups in EXPOSURES.items():
         if groups == (child, adult):
             return [f"exposure {name}  # {', '.join(numbers)}"]

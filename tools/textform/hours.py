@@ -7,10 +7,16 @@ from math import floor
 from .words import Mistake, exact, hint, shown
 
 MOST_QUARTERS = 96  # of a day; screen refuses more
+DAY = MOST_QUARTERS // 4  # hours
 MOST_HELD = 65_535  # quarter hours that the field in the bytes has room for
 CLOCK = re.compile(r"([0-9]+)(?::([0-9]{2})| ?h ?([0-9]{1,2}))\Z")
 DECIMAL_MINUTES = re.compile(r"([0-9]+)\.(15|30|45)\Z")
 FORM = "hours such as 8, 7.75, 7:45 or 7 h 45; after : or h stand the minutes, 00, 15, 30 or 45"
+
+
+def may_be_whole_hours(*quarters):
+    """Whether a job's quarter hours could be whole hours, which jobs used to hold: nothing in the bytes tells the two apart."""
+    return 0 < max(quarters) <= DAY
 
 
 def quarters_of(words, what, line):
