@@ -5,7 +5,7 @@
  * type, and has at least as many elements behind it as the length after it says, so it may be null where that length is 0;
  * `figures`, which has no length, is never null; and what `out`, `figures` and `factors` point to overlaps nothing else that is
  * passed. A length is at most PTRDIFF_MAX bytes. None of them allocates, blocks or keeps a pointer, and all may be called from
- * several threads at once. Of the stack a call for factors takes under 2 KB, the others under 4 KB, as measured.
+ * several threads at once. Of the stack a call for factors takes under 2 KB, the others under 3 KB, as measured.
  *
  * Every call answers an int64_t: the answer itself where it is not negative, and minus the number of the refusal otherwise. So a
  * refusal is met by  if (answer < 0),  and this one by  if (answer == -JELMORAND_BOOK_TOO_SHORT).

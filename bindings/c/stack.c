@@ -20,7 +20,7 @@
 /* In bytes. */
 #define FACTORS_LIMIT 1536
 #define AFTER_LIMIT 2048
-#define JOB_LIMIT 4096
+#define JOB_LIMIT 3072
 
 enum call { NONE, FACTORS, AFTER, REPORT, FIGURES, TABLE, LOWEST, CALLS };
 

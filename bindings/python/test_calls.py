@@ -74,7 +74,7 @@ def expected_figures(text, room):
     if refusal:
         return -refusal, [7] * 6, [7] * room
     words = {line[0]: line[1] for line in lines if line[0] != "factor"}
-    verdict = ("below", "close", "above").index(words["verdict"])
+    verdict = 1 + ("below", "close", "above").index(words["verdict"])
     numbers = [2**64 - 1 if words[name] == "none" else int(words[name]) for name in ("concentration", "level", "equilibrium", "working")]
     return len(factors), [verdict, *numbers, len(factors)], factors + [7] * (room - len(factors))
 
