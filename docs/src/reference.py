@@ -422,7 +422,7 @@ def minute_line(minute, factors):
 
 def opening_every(periods, every, book):
     """A line for each minute of the periods that is a multiple of `every`, counted from the shut room on."""
-    rates = [v for v, minutes in zip(periods[::2], periods[1::2]) for _ in range(minutes)]
+    rates = sum(([v] * minutes for v, minutes in zip(periods[::2], periods[1::2])), [])
     factors, text = shut_room(book), ""
     for minute, v in enumerate(rates, 1):
         factors = minutes_later(v, 1, book, factors)
