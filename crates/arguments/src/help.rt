@@ -1,16 +1,18 @@
 // What a program says of itself, and of an input that is not what it takes.
-ghost use Rattle.std.specs.Prelude.{◌≡◌};
+ghost use Rattle.std.specs.Prelude.{◌≡◌, IfOk, map, string_bytes};
+ghost use Rattle.arguments.specs.Help.{asks_help};
 ghost use Rattle.arguments.specs.Texts.{is_text};
 
 use anyhow::Result;
 
-// Whether a program is asked how it is used, by `--help` alone; then it has said so.
-// No contract speaks of what the system hands to a program.
-pub fn help_given(rt: &HostRuntime, usage: &str) -> Result<bool> {
-    let mut words = std::env::args(rt)?;
-    let _program = words.next();
-    let asked = words.next().is_some_and(|word| word.as_str() == "--help")
-        && words.next().is_none();
+// Whether a program is asked how it is used, by the words that it was started with; where it is, it says so.
+pub fn help_given(rt: &HostRuntime, words: &[String], usage: &str) -> Result<bool>
+    ensures { IfOk result (λ asked. asked ≡ asks_help (map string_bytes words.now)) }
+{
+    let asked = match words {
+        [_, word] => word.as_str() == "--help",
+        _ => false,
+    };
     if asked {
         println!(rt; "usage: {usage}")?;
     }
@@ -24,11 +26,15 @@ pub fn is_text(input: &[u8]) -> bool
     !input.is_empty() && !input.contains(&0)
 }
 
-// Says on standard error that an input is a text, where it is one; what is answered to it stays a refusal.
-pub fn remark_text(rt: &HostRuntime, program: &str, input: &[u8]) {
-    if is_text(input) {
+// Whether an input is a text; where it is, a line on standard error says so, beside what is answered to it.
+pub fn remark_text(rt: &HostRuntime, program: &str, input: &[u8]) -> bool
+    ensures { result ≡ is_text input.now }
+{
+    let found = is_text(input);
+    if found {
         let _ = eprintln!(rt;
             "{program}: this is a text: `./jelmorand {program} FILE` reads texts"
         );
     }
+    found
 }

@@ -21,7 +21,8 @@ fn main(rt: HostRuntime) -> ExitCode {
 
 // Not one function with `screen`: the check proves no bound `FnOnce` that names a const parameter, as the room is.
 fn answer(rt: &HostRuntime) -> Result<()> {
-    if help_given(rt, USAGE)? {
+    let words: Vec<String> = std::env::args(rt)?.collect(rt.alloc())?;
+    if help_given(rt, &words, USAGE)? {
         return Ok(());
     }
     let job = read_input(rt, USAGE, ENOUGH)?;

@@ -31,10 +31,10 @@ fn main(rt: HostRuntime) -> ExitCode {
 }
 
 fn answer(rt: &HostRuntime) -> Result<()> {
-    if help_given(rt, USAGE)? {
+    let words: Vec<String> = std::env::args(rt)?.collect(rt.alloc())?;
+    if help_given(rt, &words, USAGE)? {
         return Ok(());
     }
-    let words: Vec<String> = std::env::args(rt)?.collect(rt.alloc())?;
     match words.as_slice() {
         [_, path, given @ .., word, every] if word.as_str() == "every" => {
             let book = book_in(rt, path)?;

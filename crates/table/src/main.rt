@@ -25,24 +25,22 @@ fn main(rt: HostRuntime) -> ExitCode {
 }
 
 fn answer(rt: &HostRuntime) -> Result<()> {
-    if help_given(rt, USAGE)? {
+    let words: Vec<String> = std::env::args(rt)?.collect(rt.alloc())?;
+    if help_given(rt, &words, USAGE)? {
         return Ok(());
     }
-    let mut words = std::env::args(rt)?;
-    let _program = words.next();
-    let Some(path) = words.next() else {
+    let [_, path, given @ ..] = words.as_slice() else {
         bail!("usage: {USAGE}");
     };
     let book = read_file(rt, path.as_str(), ENOUGH)?;
     remark_text(rt, "table", &book);
-    let given: Vec<String> = words.collect(rt.alloc())?;
     if given.is_empty() {
         return write_table(rt, &SOURCE_RATES, &book);
     }
     if MOST_RATES < given.len() {
         bail!("table: more than 1,000 rates");
     }
-    let rates = read_numbers(rt, &given, WANTED).context("table")?;
+    let rates = read_numbers(rt, given, WANTED).context("table")?;
     write_table(rt, &rates, &book)
 }
 
