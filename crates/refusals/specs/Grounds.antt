@@ -26,6 +26,7 @@ refusal_number Refusal.ListTooShort = 19
 refusal_number Refusal.RateCountOutOfRange = 20
 refusal_number Refusal.BufferTooShort = 21
 refusal_number Refusal.PeriodsOutOfRange = 22
+refusal_number Refusal.SecondSetOutOfRange = 23
 
 -- The number that a call answers with a refusal: minus that of the ground.
 abbrev pub refused_number : Refusal → ℤ

@@ -30,6 +30,7 @@ pub enum Refusal {
     RateCountOutOfRange,
     BufferTooShort,
     PeriodsOutOfRange,
+    SecondSetOutOfRange,
 }
 
 // The refusal where its ground is met; a call goes on with `?`, and so answers the first that is.

@@ -35,6 +35,7 @@ impl From<Refusal> for u64 {
             Refusal::RateCountOutOfRange => 20,
             Refusal::BufferTooShort => 21,
             Refusal::PeriodsOutOfRange => 22,
+            Refusal::SecondSetOutOfRange => 23,
         }
     }
 }
