@@ -21,10 +21,5 @@ unfolding sum_below
 sum_scale zero c f = omega arith
 sum_scale (suc n) c f = omega (arith, sum_scale n c f)
 
-pub sum_at_most : (n c : ℕ) {f : ℕ → ℕ} → ((i : ℕ) → i < n → f i ≤ c) → sum_below n f ≤ n * c
-unfolding sum_below
-sum_at_most zero c each = omega arith
-sum_at_most (suc n) c each = omega (arith, sum_at_most n c (λ i l. each i (omega arith)), each n (omega arith))
-
 pub sum_same : (n : ℕ) {f g : ℕ → ℕ} → ((i : ℕ) → i < n → f i ≡ g i) → sum_below n f ≡ sum_below n g
 sum_same n each = le_antisymm (sum_mono n (λ i l. le_of_eq (each i l))) (sum_mono n (λ i l. le_of_eq (sym (each i l))))
