@@ -36,11 +36,6 @@ LISTED = {
         "let mut feeds = [Feed { share: 0, from: 0 }; MAX_FEEDS]",
     },
     "book/src/layout.rt": {"pub type Coefficients = [u32; COEFFICIENTS]"},
-    "book/src/coefficients.rt": {
-        "pub coefficients: [Coefficients; MAX_MEMBERS]",
-        "let mut coefficients = [[0u32; COEFFICIENTS]; MAX_MEMBERS]",
-        "[0u32; COEFFICIENTS]",
-    },
     "book/src/checks/walk.rt": {"counts: &mut [u8; 256]", "let mut counts = [0u8; 256]"},
     "numbers/src/bytes.rt": {"-> [u8; N]"},
     "wide/src/number.rt": {"limbs: [u32; 6]"},
@@ -61,7 +56,7 @@ WIDE_LISTS = COLUMNS | {
     "book/src/chain.rt": {"pub half_lives: [u64; MAX_MEMBERS]"},
     "book/src/held.rt": {"let mut half_lives = [0u64; MAX_MEMBERS]"},
     "book/src/checks/shares.rt": {"sums: &mut [u64; MAX_MEMBERS]", "let mut sums = [0u64; MAX_MEMBERS]"},
-    "book/src/fields.rt": {"from_fn(|which| coefficient_of(book, i, which as u16))"},
+    "book/src/coefficients.rt": {"from_fn(|which| coefficient_at(bytes, at, which as u16))"},
     "numbers/src/bytes.rt": {"return from_fn(|k| bytes[at + k])", "from_fn(|k| byte_at(bytes, at + k))"},
     "wide/src/number.rt": {"limbs: [0, 0, 0, 0, upper(x), low(x)]"},
 }

@@ -9,7 +9,7 @@ use mathlib.Core.List.{List, [], ◌++◌, map, map-append, append_assoc, append
 use lib.ListN.{length, get_or, take, drop, replicate, length-append, length-map}
 use lib.Seq.{drop_at, take_at}
 use Rattle.book.specs.Limits.{max_members, max_feeds}
-use Rattle.book.specs.Fields.{members, half_life, coefficient_count, coefficient, coefficients_of, first_feed, next}
+use Rattle.book.specs.Fields.{members, half_life, coefficient_count, five, first_feed, next}
 use Rattle.book.specs.Held.{member_places, feed_of, feeds_in_order, held_feeds, feeds_end}
 use Rattle.book.specs.Holding.{Holding, no_feeds}
 use Rattle.book.specs.declared.feed.Feed.{Feed}
@@ -93,12 +93,11 @@ module _ {book half_lives ends : List ℕ} {members : ℕ} {feeds : List Feed}
         (ap (drop (length before)) list ∙ drop_at (map f before) _ (length before) (length-map before f))
         ∙ take_at (map f own) _ (feeds_end book i - length before) (length-map own f ∙ sym count)
 
--- Number `which` of a member's five.
-pub row_at : (book : List ℕ) (i which : ℕ) → which < coefficient_count →
-    get_or (coefficients_of book i) which 0 ≡ coefficient book i which
-row_at book i zero l = refl
-row_at book i (suc zero) l = refl
-row_at book i (suc (suc zero)) l = refl
-row_at book i (suc (suc (suc zero))) l = refl
-row_at book i (suc (suc (suc (suc zero)))) l = refl
-row_at book i (suc (suc (suc (suc (suc which))))) l = absurd (omega arith)
+-- Each of five numbers is in its place.
+pub five_at : (number : ℕ → ℕ) (which : ℕ) → which < coefficient_count → get_or (five number) which 0 ≡ number which
+five_at number zero l = refl
+five_at number (suc zero) l = refl
+five_at number (suc (suc zero)) l = refl
+five_at number (suc (suc (suc zero))) l = refl
+five_at number (suc (suc (suc (suc zero)))) l = refl
+five_at number (suc (suc (suc (suc (suc which))))) l = absurd (omega arith)

@@ -7,7 +7,7 @@ use Rattle.book.specs.Limits.{max_members, max_feeds, max_parent_half_life, max_
 use Rattle.book.specs.Fields.{header_length, header_zeros, header_zero_count, member_zeros}
 use Rattle.book.specs.Fields.{member_zero_count, feed_zeros, feed_zero_count, book_length, members}
 use Rattle.book.specs.Fields.{feed_count, working_level_divisor, half_life, coefficient_count}
-use Rattle.book.specs.Fields.{coefficient, first_feed, scale_of, share, from, next, feeds_of}
+use Rattle.book.specs.Fields.{coefficient_at, first_coefficient, first_feed, scale_of, share, from, next, feeds_of}
 use Rattle.refusals.specs.Grounds.{Ground, ground_of, first_met}
 use Rattle.numbers.specs.Tests.{outside, some_below, some_in}
 use Rattle.numbers.specs.Sums.{sum_below}
@@ -44,10 +44,12 @@ abbrev pub longest : ℕ → ℕ
 longest zero = max_parent_half_life
 longest (suc i) = max_half_life
 
+abbrev pub coefficient_too_high : List ℕ → ℕ → Bool
+coefficient_too_high bytes at =
+    some_below coefficient_count (λ which. ltb max_coefficient (coefficient_at bytes at which))
+
 abbrev pub member_wrong : List ℕ → ℕ → Bool
-member_wrong book i =
-    outside 1 (longest i) (half_life book i)
-    || some_below coefficient_count (λ which. ltb max_coefficient (coefficient book i which))
+member_wrong book i = outside 1 (longest i) (half_life book i) || coefficient_too_high book (first_coefficient i)
 
 unfoldable pub member_out_of_range : List ℕ → Bool
 member_out_of_range book = some_below (members book) (member_wrong book)

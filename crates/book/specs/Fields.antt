@@ -43,14 +43,20 @@ half_life book i = u64_at book (member_at i)
 abbrev pub coefficient_count : ℕ
 coefficient_count = 5
 
-abbrev pub coefficient : List ℕ → ℕ → ℕ → ℕ
-coefficient book i which = u32_at book (member_at i + 8 + 4 * which)
+-- Number `which` of five that stand one after the other, each a u32.
+abbrev pub coefficient_at : List ℕ → ℕ → ℕ → ℕ
+coefficient_at bytes at which = u32_at bytes (at + 4 * which)
 
--- All five of member i.
-abbrev pub coefficients_of : List ℕ → ℕ → List ℕ
-coefficients_of book i =
-    coefficient book i 0 ∷ coefficient book i 1 ∷ coefficient book i 2 ∷ coefficient book i 3
-    ∷ coefficient book i 4 ∷ []
+-- A member's follow its half-life.
+abbrev pub first_coefficient : ℕ → ℕ
+first_coefficient i = member_at i + 8
+
+abbrev pub coefficient : List ℕ → ℕ → ℕ → ℕ
+coefficient book i = coefficient_at book (first_coefficient i)
+
+-- All five.
+abbrev pub five : (ℕ → ℕ) → List ℕ
+five number = number 0 ∷ number 1 ∷ number 2 ∷ number 3 ∷ number 4 ∷ []
 
 abbrev pub first_feed : List ℕ → ℕ → ℕ
 first_feed book i = u8_at book (member_at i + 28)

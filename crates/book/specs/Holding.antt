@@ -2,7 +2,7 @@
 -- member i's feeds stand from the end of member i - 1's on, up to its own end.
 use Rattle.std.specs.Prelude.{ℕ, List, map, replicate, ◌≡◌}
 use Rattle.book.specs.Limits.{max_members, max_feeds}
-use Rattle.book.specs.Fields.{half_life, working_level_divisor, coefficient_count, coefficients_of}
+use Rattle.book.specs.Fields.{half_life}
 use Rattle.book.specs.Held.{member_places, filled, over, feed_of, feeds_in_order, feeds_end}
 use Rattle.book.specs.declared.feed.Feed.{Feed}
 
@@ -14,10 +14,3 @@ pub record Holding (book : List ℕ) (members : ℕ) (half_lives ends : List ℕ
   pub half_life_array : half_lives ≡ filled (member_places book) (half_life book) (replicate max_members 0)
   pub end_array : ends ≡ filled (member_places book) (feeds_end book) (replicate max_members 0)
   pub feed_array : feeds ≡ over (map (feed_of book) (feeds_in_order book (member_places book))) no_feeds
-
--- And what it is screened by: each member's five numbers, and W.
-pub record HoldingNumbers (book : List ℕ) (members : ℕ) (coefficients : List (List ℕ)) (divisor : ℕ) : Type 0 where
-  pub count : members ≡ member_places book
-  pub rows : coefficients
-      ≡ filled (member_places book) (coefficients_of book) (replicate max_members (replicate coefficient_count 0))
-  pub divisor_is : divisor ≡ working_level_divisor book

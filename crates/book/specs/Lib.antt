@@ -4,4 +4,5 @@ pub mod Rates
 pub mod BookGrounds
 pub mod Held
 pub mod Holding
+pub mod Filling
 pub mod Private

@@ -3,4 +3,3 @@ pub mod Counted
 pub mod Placed
 pub mod SharesSummed
 pub mod Feeds
-pub mod Filling

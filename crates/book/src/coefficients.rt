@@ -1,54 +1,24 @@
-// What a book is screened by, read once.
-ghost use Rattle.std.specs.Prelude.{◌≡◌};
-ghost use Rattle.book.specs.Fields.{coefficients_of};
-ghost use Rattle.book.specs.Held.{member_places, up_to};
-ghost use Rattle.book.specs.Holding.{HoldingNumbers};
+// Five numbers that stand one after the other, each a u32: a member's own in the book, or those of another set.
+ghost use Rattle.std.specs.Prelude.{◌≡◌, ◌<◌, ◌^◌};
+ghost use Rattle.book.specs.Fields.{coefficient_at, five};
 
-use super::fields::coefficients_of;
-use super::filling::fill_first;
-use super::held::member_places;
-use super::layout::{COEFFICIENTS, Coefficients, DIVISOR};
-use super::limits::MAX_MEMBERS;
-use numbers::u16_at;
+use super::layout::Coefficients;
+use numbers::u32_at;
+use std::array::from_fn;
 
-// The bytes of a book, W and each member's five numbers. They stand apart from the chain, which the factor call reads
-// alone. With no heap, the rows are a fixed array with their count beside.
-#[derive(Clone, Copy)]
-pub struct HeldNumbers<'a> {
-    pub bytes: &'a [u8],
-    pub members: usize,
-    pub coefficients: [Coefficients; MAX_MEMBERS],
-    pub divisor: u16,
-    pub ghost held: { HoldingNumbers bytes.now members coefficients divisor },
-}
-
-// The numbers of any bytes: the count of members is cut at the array's size, and past the end a field reads as 0.
-pub fn read_numbers(book: &[u8]) -> HeldNumbers<'_>
-    ensures { result.bytes.now ≡ book.now }
+// Number `which` of those from a place on.
+pub fn coefficient_at(bytes: &[u8], at: u32, which: u16) -> u32
+    requires { at < 2 ^ 31 }
+    ensures { result ≡ coefficient_at bytes.now at which }
 {
-    let members = member_places(book);
-    let mut coefficients = [[0u32; COEFFICIENTS]; MAX_MEMBERS];
-    fill_first(
-        &mut coefficients,
-        members,
-        |i|
-            ensures { result ≡ coefficients_of book.entry.now i }
-        { coefficients_of(book, i) },
-    );
-    HeldNumbers {
-        bytes: book,
-        members,
-        coefficients,
-        divisor: u16_at(book, DIVISOR),
-    }
+    u32_at(bytes, at + 4 * u32::from(which))
 }
 
-impl HeldNumbers<'_> {
-    // The five numbers of each member that is held.
-    pub fn rows(&self) -> &[Coefficients]
-        ensures { let book = self.now.bytes.now in
-            result.now ≡ up_to (member_places book) (coefficients_of book) }
-    {
-        &self.coefficients[..self.members]
-    }
+// All five.
+pub fn coefficients_at(bytes: &[u8], at: u32) -> Coefficients
+    requires { at < 2 ^ 31 }
+    ensures { result ≡ five (coefficient_at bytes.now at) }
+{
+    // Below five, so that nothing is cut.
+    from_fn(|which| coefficient_at(bytes, at, which as u16))
 }

@@ -4,8 +4,8 @@ ghost use Rattle.std.specs.Iterator.{YieldsFirst, item_count};
 ghost use Rattle.book.specs.Fields.{first_feed, next, along, feeds_of};
 ghost use Rattle.book.specs.Private.Feeds.{feeds_left};
 
-use super::counts::feed_count;
 use super::fields::{first_feed, next_of};
+use super::header::feed_count;
 
 // The feed that comes next, 0 where none does, and how many are listed at most: a chain that is longer is cut.
 #[derive(Drop)]

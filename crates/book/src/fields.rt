@@ -3,15 +3,12 @@
 // each index, and clauses name both anyway.
 ghost use Rattle.std.specs.Prelude.{◌≡◌, ◌<◌, ◌+◌, ◌^◌};
 ghost use Rattle.numbers.specs.Bytes.{u8_at};
-ghost use Rattle.book.specs.Fields.{member_at, half_life, coefficient, coefficients_of};
+ghost use Rattle.book.specs.Fields.{member_at, half_life, first_coefficient};
 ghost use Rattle.book.specs.Fields.{first_feed, feed_at, share, from, next};
 
-use super::counts::member_count;
-use super::layout::{
-    Coefficients, FEED_LENGTH, FIRST, FROM, HEADER_LENGTH, MEMBER_LENGTH, NEXT, NUMBERS,
-};
+use super::header::member_count;
+use super::layout::{FEED_LENGTH, FIRST, FROM, HEADER_LENGTH, MEMBER_LENGTH, NEXT, NUMBERS};
 use numbers::{u8_at, u32_at, u64_at};
-use std::array::from_fn;
 
 // Members count from 0 and follow the header.
 pub(crate) fn member_at(i: u16) -> u32
@@ -27,18 +24,12 @@ pub(crate) fn half_life(book: &[u8], i: u16) -> u64
     u64_at(book, member_at(i))
 }
 
-pub(crate) fn coefficient_of(book: &[u8], i: u16, which: u16) -> u32
-    ensures { result ≡ coefficient book.now i which }
+// Where its five numbers begin.
+pub fn first_coefficient(i: u16) -> u32
+    ensures value { result ≡ first_coefficient i }
+    ensures upper_bound { result < 2 ^ 23 }
 {
-    u32_at(book, member_at(i) + NUMBERS + 4 * u32::from(which))
-}
-
-// Member i's five numbers.
-pub(crate) fn coefficients_of(book: &[u8], i: u16) -> Coefficients
-    ensures { result ≡ coefficients_of book.now i }
-{
-    // Below five, so that nothing is cut.
-    from_fn(|which| coefficient_of(book, i, which as u16))
+    member_at(i) + NUMBERS
 }
 
 pub(crate) fn first_feed(book: &[u8], i: u16) -> u8

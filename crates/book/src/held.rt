@@ -6,11 +6,11 @@ ghost use Rattle.book.specs.Held.{member_places, filled, feeds_end, feeds_in_ord
 ghost use Rattle.book.specs.Private.Placed.{Placed, Extended};
 
 use super::chain::HeldChain;
-use super::counts::member_count;
 use super::feed::{Feed, feed_of};
 use super::feeds::first_feeds;
 use super::fields::half_life;
 use super::filling::fill_first;
+use super::header::member_count;
 use super::limits::{MAX_FEEDS, MAX_MEMBERS};
 
 // How many members are held.

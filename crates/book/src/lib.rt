@@ -5,11 +5,11 @@ mod accepted;
 mod chain;
 mod checks;
 mod coefficients;
-mod counts;
 mod feed;
 mod feeds;
 mod fields;
 mod filling;
+mod header;
 mod held;
 mod layout;
 mod limits;
@@ -18,9 +18,11 @@ mod rate;
 pub use accepted::AcceptedChain;
 pub use chain::HeldChain;
 pub use checks::check_book;
-pub use coefficients::{HeldNumbers, read_numbers};
-pub use counts::{feed_count, member_count};
+pub use coefficients::{coefficient_at, coefficients_at};
 pub use feed::Feed;
+pub use fields::first_coefficient;
+pub use filling::fill_first;
+pub use header::{feed_count, member_count, working_level_divisor};
 pub use held::read_chain;
 pub use layout::{
     COEFFICIENTS, Coefficients, FEED_LENGTH, HEADER_LENGTH, LONGEST_BOOK, MEMBER_LENGTH,

@@ -11,7 +11,8 @@ use Rattle.figures.specs.Promises.{NumbersTold, NumbersPromise}
 use Rattle.figures.specs.declared.FigureNumbers.{FigureNumbers}
 
 pub told :
-    (answer : Result ℕ Refusal) {job : List ℕ} {figures : FigureNumbers} (n : ℕ) → NumbersPromise job answer figures →
-    answer_number answer ≡ pos n → NumbersTold job figures
+    (answer : Result ℕ Refusal) {job second : List ℕ} {figures : FigureNumbers} (n : ℕ) →
+    NumbersPromise job second answer figures →
+    answer_number answer ≡ pos n → NumbersTold job second figures
 told (Ok m) n promise e = promise m refl
 told (Err refusal) n promise e = absurd (no_count refusal n e)

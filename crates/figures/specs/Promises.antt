@@ -1,7 +1,7 @@
 -- What the numbers of an answer promise.
 use Rattle.std.specs.Prelude.{ℕ, ◌≡◌, List, Option, Result, Ok}
 use Rattle.refusals.specs.declared.Refusal.{Refusal}
-use Rattle.book.specs.Fields.{coefficient}
+use Rattle.coefficients.specs.Sets.{coefficient_in_use}
 use Rattle.screening.specs.Job.{rate, book_of}
 use Rattle.screening.specs.Screening.{criterion_of}
 use Rattle.screening.specs.Promises.{VerdictPromise, LevelsPromise}
@@ -13,16 +13,17 @@ use Rattle.figures.specs.declared.FigureNumbers.{FigureNumbers}
 
 -- The verdict's number is that of a verdict that the exact balance bears out; the working levels' numbers are those of
 -- levels that keep their promise.
-pub record NumbersTold (job : List ℕ) (figures : FigureNumbers) : Type 0 where
+pub record NumbersTold (job second : List ℕ) (figures : FigureNumbers) : Type 0 where
   pub given : Verdict
   pub verdict : figures.verdict ≡ verdict_order given
   pub told :
-      VerdictPromise (criterion_of job) (book_of job) (coefficient (book_of job)) (rate job) figures.concentration given
+      VerdictPromise (criterion_of job) (book_of job) (coefficient_in_use (book_of job) second) (rate job)
+      figures.concentration given
   pub levels : Option WorkingLevels
   pub equilibrium : figures.equilibrium ≡ equilibrium_number levels
   pub working : figures.working ≡ micro_number levels
-  pub levels_told : LevelsPromise job levels
+  pub levels_told : LevelsPromise job second levels
 
 -- Where the call answers a number, the numbers that it leaves do.
-abbrev pub NumbersPromise : List ℕ → Result ℕ Refusal → FigureNumbers → Type 0
-NumbersPromise job answer figures = (n : ℕ) → answer ≡ Ok n → NumbersTold job figures
+abbrev pub NumbersPromise : List ℕ → List ℕ → Result ℕ Refusal → FigureNumbers → Type 0
+NumbersPromise job second answer figures = (n : ℕ) → answer ≡ Ok n → NumbersTold job second figures

@@ -3,12 +3,12 @@
 
 ghost use Rattle.std.specs.Prelude.{◌≡◌, ◌≤◌, IfOk, length};
 ghost use Rattle.book.specs.Limits.{max_members};
-ghost use Rattle.screening.specs.Screening.{answer_of};
-ghost use Rattle.figures.specs.Numbers.{figures_of, lent, count_answered, figures_left, factors_left};
+ghost use Rattle.screening.specs.Screening.{answer_with};
+ghost use Rattle.figures.specs.Numbers.{figures_of, lent, count_answered, set_left, figures_left, factors_left};
 ghost use Rattle.figures.specs.Promises.{NumbersPromise};
 
 use refusals::{Refusal, refuse_if};
-use screening::{Figures, screen_job};
+use screening::{Figures, screen_job_with};
 
 // What stands for a figure that is not there.
 pub const NO_FIGURE: u64 = u64::MAX;
@@ -26,22 +26,29 @@ pub struct FigureNumbers {
     pub count: u64,
 }
 
-// The answer to a job: its figures, the members' factors in the first places of `factors`, and how many these are. A
-// refusal leaves both as they were.
+// The answer to a job, by a second set of coefficients where one is lent: the number of the set in use (1 for the
+// book's, 2 for the second), its figures, the members' factors in the first places of `factors`, and how many these
+// are. A refusal leaves all three as they were.
 pub fn screen_numbers(
     job: &[u8],
+    second: &[u8],
+    set: &mut u32,
     figures: &mut FigureNumbers,
     factors: &mut [u64],
 ) -> Result<usize, Refusal>
-    ensures answered { result ≡ count_answered (lent (answer_of job.now) (length factors.old)) }
-    ensures figures { figures.new ≡ figures_left (lent (answer_of job.now) (length factors.old)) figures.old }
-    ensures factors { factors.new ≡ factors_left (lent (answer_of job.now) (length factors.old)) factors.old }
+    ensures answered { result ≡ count_answered (lent (answer_with job.now second.now) (length factors.old)) }
+    ensures set { set.new ≡ set_left (lent (answer_with job.now second.now) (length factors.old)) set.old }
+    ensures figures { figures.new
+        ≡ figures_left (lent (answer_with job.now second.now) (length factors.old)) figures.old }
+    ensures factors { factors.new
+        ≡ factors_left (lent (answer_with job.now second.now) (length factors.old)) factors.old }
     ensures few { IfOk result (λ n. n ≤ max_members) }
-    ensures sound { NumbersPromise job.now result figures.new }
+    ensures sound { NumbersPromise job.now second.now result figures.new }
 {
-    let answer = screen_job(job)?;
+    let answer = screen_job_with(job, second)?;
     refuse_if(factors.len() < answer.count, Refusal::ListTooShort)?;
     factors[..answer.count].copy_from_slice(&answer.factors[..answer.count]);
+    *set = u32::from(answer.figures.set);
     *figures = numbers_of(answer.figures, answer.count);
     Ok(answer.count)
 }

@@ -1,10 +1,12 @@
 -- The number that a caller in another language gets: that of the call's own answer, the answer itself where it is not
 -- negative, and minus the number of the refusal otherwise.
 use Rattle.refusals.specs.Grounds.{answer_number}
-use Rattle.std.specs.Prelude.{ℕ, ◌+◌, ◌*◌, ◌≡◌, List, ℤ, pos}
+use Rattle.std.specs.Prelude.{ℕ, ◌+◌, ◌*◌, ◌≡◌, List, ℤ, pos, Result, Ok, Err}
 use Rattle.std.specs.Option.{ok_or}
+use Rattle.refusals.specs.declared.Refusal.{Refusal}
 use Rattle.refusals.specs.declared.Refusal.TheVariants.{BufferTooShort}
-use Rattle.screening.specs.Screening.{answer_of}
+use Rattle.coefficients.specs.Sets.{set_number}
+use Rattle.screening.specs.Screening.{answer_with}
 use Rattle.figures.specs.Numbers.{lent, count_answered}
 use Rattle.figures.specs.Promises.{NumbersTold}
 use Rattle.figures.specs.declared.FigureNumbers.{FigureNumbers}
@@ -12,7 +14,8 @@ use Rattle.balance.specs.Factors.{factor_answer}
 use Rattle.minutes.specs.Periods.{periods_answer}
 use Rattle.text.specs.Answered.{length_written}
 use Rattle.report.specs.Report.{report_of}
-use Rattle.ventilation.specs.Lowest.{lowest_of, lowest_number}
+use Rattle.ventilation.specs.Lowest.{lowest_with, lowest_number}
+use Rattle.ventilation.specs.declared.LowestRate.{LowestRate}
 use Rattle.tables.specs.Answers.{table_answer}
 
 -- What the factor call answers for a rate, a book and a list of so many places.
@@ -24,13 +27,14 @@ factors_number v book capacity = answer_number (factor_answer v book capacity)
 abbrev pub report_number : List ℕ → ℕ → ℤ
 report_number job capacity = answer_number (ok_or (length_written (report_of job) capacity) BufferTooShort)
 
--- What the call for figures answers for a job and so many places for factors.
-abbrev pub screen_number : List ℕ → ℕ → ℤ
-screen_number job places = answer_number (count_answered (lent (answer_of job) places))
+-- What the calls for figures answer for a job, what is lent beside it and so many places for factors; the call without
+-- a second set lends no bytes.
+abbrev pub screen_number : List ℕ → List ℕ → ℕ → ℤ
+screen_number job second places = answer_number (count_answered (lent (answer_with job second) places))
 
 -- What the call's number says of the figures: where it is a count, their numbers keep their promise.
-abbrev pub ScreenPromise : List ℕ → ℤ → FigureNumbers → Type 0
-ScreenPromise job answer figures = (n : ℕ) → answer ≡ pos n → NumbersTold job figures
+abbrev pub ScreenPromise : List ℕ → List ℕ → ℤ → FigureNumbers → Type 0
+ScreenPromise job second answer figures = (n : ℕ) → answer ≡ pos n → NumbersTold job second figures
 
 -- What the table call answers for a list of rates, a book and so many places.
 abbrev pub table_number : List ℕ → List ℕ → ℕ → ℤ
@@ -40,10 +44,15 @@ table_number rates book capacity = answer_number (table_answer rates book capaci
 abbrev pub periods_number : List ℕ → List ℕ → ℕ → ℤ
 periods_number periods book capacity = answer_number (periods_answer periods book capacity)
 
--- What the call for the lowest rate answers for a job.
-abbrev pub lowest_rate_number : List ℕ → ℤ
-lowest_rate_number job = lowest_number (lowest_of job)
+-- What the calls for the lowest rate answer for a job and what is lent beside it.
+abbrev pub lowest_rate_number : List ℕ → List ℕ → ℤ
+lowest_rate_number job second = lowest_number (lowest_with job second)
 
--- What the version call answers: version 0.7.0.
+-- The set's number afterwards: that of the set in use, where a rate or none is answered; a refusal leaves it as it was.
+abbrev pub lowest_set_left : Result LowestRate Refusal → ℕ → ℕ
+lowest_set_left (Ok answer) set = set_number answer.set
+lowest_set_left (Err refusal) set = set
+
+-- What the version call answers: version 0.8.0.
 abbrev pub version : ℕ
-version = 1000000 * 0 + 1000 * 7 + 0
+version = 1000000 * 0 + 1000 * 8 + 0

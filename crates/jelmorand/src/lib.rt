@@ -2,30 +2,31 @@
 // number: the answer itself where it is not negative, and minus the number of the refusal otherwise.
 #![tactic(auto)]
 
-ghost use Rattle.std.specs.Prelude.{◌≡◌, ◌<◌, ◌^◌, IfOk, length, pos};
+ghost use Rattle.std.specs.Prelude.{◌≡◌, ◌<◌, ◌^◌, [], IfOk, length, pos};
 ghost use Rattle.balance.specs.Factors.{factor_list};
 ghost use Rattle.minutes.specs.Periods.{periods_list};
 ghost use Rattle.report.specs.Report.{report_of};
-ghost use Rattle.screening.specs.Screening.{answer_of};
-ghost use Rattle.figures.specs.Numbers.{lent, figures_left, factors_left};
+ghost use Rattle.screening.specs.Screening.{answer_of, answer_with};
+ghost use Rattle.figures.specs.Numbers.{lent, set_left, figures_left, factors_left};
 ghost use Rattle.text.specs.Answered.{bytes_written};
 ghost use Rattle.tables.specs.Answers.{table_buffer};
 ghost use Rattle.refusals.specs.Grounds.{refused_number, answer_number};
 ghost use Rattle.jelmorand.specs.Answers.{factors_number, report_number, screen_number, ScreenPromise, version};
-ghost use Rattle.jelmorand.specs.Answers.{table_number, periods_number, lowest_rate_number};
+ghost use Rattle.jelmorand.specs.Answers.{table_number, periods_number, lowest_rate_number, lowest_set_left};
+ghost use Rattle.ventilation.specs.Lowest.{lowest_with};
 
 use figures::{FigureNumbers, screen_numbers};
 use minutes::factors_after;
 use refusals::Refusal;
 use report::report_job;
 use tables::tabulate;
-use ventilation::lowest_rate;
+use ventilation::lowest_rate_with;
 
 // What the lowest rate is answered as where there is none: one more than the highest rate.
 const NO_RATE: i64 = 100_001;
 
 // 1,000,000 times the first part of the version, 1,000 times the second and the third.
-const VERSION: i64 = 7_000;
+const VERSION: i64 = 8_000;
 
 // The version of these calls: one that has every call of a header has at least the header's.
 #[unsafe(no_mangle)]
@@ -81,12 +82,34 @@ pub extern "C" fn jelmorand_screen(
     figures: &mut FigureNumbers,
     factors: &mut [u64],
 ) -> i64
-    ensures answered { result ≡ screen_number job.now (length factors.old) }
+    ensures answered { result ≡ screen_number job.now [] (length factors.old) }
     ensures figures { figures.new ≡ figures_left (lent (answer_of job.now) (length factors.old)) figures.old }
     ensures factors { factors.new ≡ factors_left (lent (answer_of job.now) (length factors.old)) factors.old }
-    ensures sound { ScreenPromise job.now result figures.new }
+    ensures sound { ScreenPromise job.now [] result figures.new }
 {
-    number_of(screen_numbers(job, figures, factors))
+    let mut set = 0;
+    jelmorand_screen_with(job, &[], &mut set, figures, factors)
+}
+
+// The same by a second set of coefficients, lent beside the job; no bytes mean that none is lent. `set` is then the
+// number of the set in use, 1 for the book's and 2 for the second; a refusal leaves it as it was too.
+#[unsafe(no_mangle)]
+pub extern "C" fn jelmorand_screen_with(
+    job: &[u8],
+    second: &[u8],
+    set: &mut u32,
+    figures: &mut FigureNumbers,
+    factors: &mut [u64],
+) -> i64
+    ensures answered { result ≡ screen_number job.now second.now (length factors.old) }
+    ensures set { set.new ≡ set_left (lent (answer_with job.now second.now) (length factors.old)) set.old }
+    ensures figures { figures.new
+        ≡ figures_left (lent (answer_with job.now second.now) (length factors.old)) figures.old }
+    ensures factors { factors.new
+        ≡ factors_left (lent (answer_with job.now second.now) (length factors.old)) factors.old }
+    ensures sound { ScreenPromise job.now second.now result figures.new }
+{
+    number_of(screen_numbers(job, second, set, figures, factors))
 }
 
 // The table of a book at every rate of a list, to the start of `out`, and its length; a refusal leaves `out` as it was.
@@ -111,10 +134,24 @@ pub extern "C" fn jelmorand_factors_after(periods: &[u32], book: &[u8], out: &mu
 // The lowest rate at which the verdict on a job is 'below', or 100,001 where no rate gives it.
 #[unsafe(no_mangle)]
 pub extern "C" fn jelmorand_lowest_rate(job: &[u8]) -> i64
-    ensures { result ≡ lowest_rate_number job.now }
+    ensures { result ≡ lowest_rate_number job.now [] }
 {
-    match lowest_rate(job) {
-        Ok(rate) => rate.map_or(NO_RATE, i64::from),
+    let mut set = 0;
+    jelmorand_lowest_rate_with(job, &[], &mut set)
+}
+
+// The same by a second set of coefficients, lent beside the job; no bytes mean that none is lent. `set` is then the
+// number of the set in use; a refusal leaves it as it was.
+#[unsafe(no_mangle)]
+pub extern "C" fn jelmorand_lowest_rate_with(job: &[u8], second: &[u8], set: &mut u32) -> i64
+    ensures answered { result ≡ lowest_rate_number job.now second.now }
+    ensures set { set.new ≡ lowest_set_left (lowest_with job.now second.now) set.old }
+{
+    match lowest_rate_with(job, second) {
+        Ok(lowest) => {
+            *set = u32::from(lowest.set);
+            lowest.rate.map_or(NO_RATE, i64::from)
+        }
         Err(refusal) => refused(refusal),
     }
 }

@@ -15,6 +15,8 @@ pub(crate) enum Kind {
     Table,
     // The call for periods.
     Opening,
+    // A job by a second set, as `partner` writes it.
+    Partner,
 }
 
 #[derive(Debug, Drop, Error)]
@@ -33,6 +35,7 @@ impl TryFrom<u8> for Kind {
             2 => Ok(Kind::Factors),
             3 => Ok(Kind::Table),
             4 => Ok(Kind::Opening),
+            5 => Ok(Kind::Partner),
             _ => Err(UnknownKind(number)),
         }
     }

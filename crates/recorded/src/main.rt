@@ -7,7 +7,9 @@ mod record;
 use arguments::ended;
 use kind::Kind;
 use record::{Record, next_record};
-use records::{answer_all, factors_case, lowest_case, opening_case, report_case, table_case};
+use records::{
+    answer_all, factors_case, lowest_case, opening_case, partner_case, report_case, table_case,
+};
 use std::alloc::{AllocError, Global};
 use std::process::ExitCode;
 
@@ -30,5 +32,6 @@ fn text_of(alloc: Global, record: &Record) -> Result<Vec<u8>, AllocError> {
         Kind::Factors => factors_case(alloc, &record.body),
         Kind::Table => table_case(alloc, &record.body),
         Kind::Opening => opening_case(alloc, &record.body),
+        Kind::Partner => partner_case(alloc, &record.body),
     }
 }

@@ -9,7 +9,8 @@ use Rattle.book.specs.Held.{up_to}
 use Rattle.balance.specs.Factors.{factor_answer, factor_list}
 use Rattle.minutes.specs.Periods.{periods_answer, periods_list}
 use Rattle.tables.specs.Answers.{table_answer, table_buffer}
-use Rattle.text.specs.Words.{ascii, decimal, line_feed, numbered}
+use Rattle.report.specs.BySet.{partner_text}
+use Rattle.text.specs.Words.{ascii, decimal, line_feed}
 
 -- The first record of some bytes, as much of it as there is room for: a length in two bytes, and so many bytes.
 abbrev pub first_record : List ℕ → ℕ → List ℕ
@@ -105,3 +106,9 @@ table_case body =
     let buffer = lent_buffer (u32_at body 0) in
     answered (ascii "written ") (table_answer rates book (length buffer)) ++ line_feed ++ table_buffer rates book buffer
     ++ line_feed
+
+-- A job by a second set: the set's length (u32), the set, the job, as `partner` writes it.
+abbrev pub partner_case : List ℕ → List ℕ
+partner_case body =
+    let size = u32_at body 0 in
+    partner_text (drop (4 + size) body) (take size (drop 4 body))

@@ -1,15 +1,16 @@
 // What is written of each kind of case, given its body. Numbers in a body are little-endian.
-ghost use Rattle.std.specs.Prelude.{◌≡◌, ◌<◌, ◌++◌, drop, length, IfOk, OnOk};
+ghost use Rattle.std.specs.Prelude.{◌≡◌, ◌<◌, ◌++◌, take, drop, length, IfOk, OnOk};
 ghost use Rattle.report.specs.Report.{report_of};
 ghost use Rattle.report.specs.RateLine.{rate_line};
-ghost use Rattle.records.specs.Cases.{factors_case, opening_case, table_case, numbers_at, list_line, answered};
+ghost use Rattle.records.specs.Cases.{factors_case, opening_case, table_case, partner_case};
+ghost use Rattle.records.specs.Cases.{numbers_at, list_line, answered};
 
 use super::words::{push_number, push_places};
 use balance::factors;
 use minutes::factors_after;
 use numbers::{u16_at, u32_at};
 use refusals::Refusal;
-use report::{RATE_LINE_ROOM, REPORT_ROOM, rate_line, whole_report};
+use report::{PARTNER_ROOM, RATE_LINE_ROOM, REPORT_ROOM, partner_text, rate_line, whole_report};
 use std::alloc::{AllocError, Global};
 use tables::tabulate;
 
@@ -33,6 +34,21 @@ pub fn lowest_case(alloc: Global, job: &[u8]) -> Result<Vec<u8>, AllocError>
 {
     let mut buffer = [0u8; RATE_LINE_ROOM];
     let n = rate_line(job, &mut buffer);
+    Vec::from_slice(alloc, &buffer[..n])
+}
+
+// A job by a second set, as `partner` writes it.
+pub fn partner_case(alloc: Global, body: &[u8]) -> Result<Vec<u8>, AllocError>
+    ensures { IfOk result (λ text. text.items ≡ partner_case body.now) }
+{
+    // A usize has no `From<u32>`; the cast cuts nothing.
+    let size = u32_at(body, 0) as usize;
+    let mut buffer = [0u8; PARTNER_ROOM];
+    let n = partner_text(
+        rest(body, 4 + size),
+        start(rest(body, 4), size),
+        &mut buffer,
+    );
     Vec::from_slice(alloc, &buffer[..n])
 }
 
@@ -113,6 +129,13 @@ fn numbers(alloc: Global, body: &[u8], offset: u32, count: u16) -> Result<Vec<u3
     (0..u32::from(count))
         .map(|i| u32_at(body, offset + 4 * i))
         .collect(alloc)
+}
+
+// So many of the first bytes; all where there are fewer.
+fn start(bytes: &[u8], size: usize) -> &[u8]
+    ensures { result.now ≡ take size bytes.now }
+{
+    &bytes[..size.min(bytes.len())]
 }
 
 // The bytes from an offset on; none where there are fewer.

@@ -4,4 +4,6 @@ pub mod ReportLengths
 pub mod ReportFits
 pub mod RateLineFits
 pub mod LongInput
+pub mod PartnerFits
+pub mod SecondSet
 pub mod Promised

@@ -10,14 +10,16 @@ use Rattle.report.specs.Reports.{Reports}
 use Rattle.report.specs.Promises.{ReportPromises}
 use Rattle.report.proofs.ReportFits.{report_fits, report_some}
 use Rattle.report.proofs.RateLineFits.{rate_line_fits}
-use Rattle.report.proofs.LongInput.{long_report, long_line}
+use Rattle.report.proofs.LongInput.{long_report, long_line, long_partner, long_set}
+use Rattle.report.proofs.PartnerFits.{partner_fits}
+use Rattle.report.proofs.SecondSet.{second_report, second_line}
 
 regroup : (a b c d e : List ℕ) → a ++ (b ++ c ++ d ++ e) ≡ a ++ b ++ c ++ d ++ e
 regroup a b c d e = simp append_assoc
 
-reports : (job : List ℕ) (verdict : Verdict) → Judged job verdict → Reports job verdict
+reports : (job second : List ℕ) (verdict : Verdict) → Judged job second verdict → Reports job second verdict
 unfolding text_of
-reports job verdict judged =
+reports job second verdict judged =
     let answer = judged.answer in
     let factors = take answer.count answer.factors in
     let first = line "concentration " answer.figures.concentration in
@@ -37,8 +39,13 @@ report_promises =
       some_report = report_some;
       report_fits = report_fits;
       line_fits = rate_line_fits;
+      partner_fits = partner_fits;
       long_report = long_report;
       long_line = long_line;
-      at_rate = λ job w passed within. reports _ _ (ventilation_promises.at_rate job w passed within);
-      at_answer = λ job v is within. reports _ _ (ventilation_promises.at_answer job v is within);
+      long_partner = long_partner;
+      long_set = long_set;
+      at_rate = λ job second w passed within. reports _ _ _ (ventilation_promises.at_rate job second w passed within);
+      at_answer = λ job second v is within. reports _ _ _ (ventilation_promises.at_answer job second v is within);
+      second_set = λ job second answer answered two.
+          (second_report job second answer answered two, second_line job second answer answered two);
     }

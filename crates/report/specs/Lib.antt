@@ -1,4 +1,5 @@
 pub mod Report
 pub mod RateLine
+pub mod BySet
 pub mod Reports
 pub mod Promises

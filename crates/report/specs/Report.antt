@@ -1,11 +1,11 @@
 -- The text that `screen` writes.
-use Rattle.std.specs.Prelude.{ℕ, ◌+◌, ◌*◌, List, ◌++◌, length, take, Option, None, Some, Result, Ok, Err}
+use Rattle.std.specs.Prelude.{ℕ, ◌+◌, ◌*◌, List, [], ◌++◌, length, take, Option, None, Some, Result, Ok, Err}
 use Prim.Native.String.{String}
 use Rattle.book.specs.Limits.{max_members}
 use Rattle.text.specs.Words.{ascii, most_digits, decimal, line_feed, line, each}
 use Rattle.refusals.specs.Grounds.{refusal_number}
 use Rattle.refusals.specs.declared.Refusal.{Refusal}
-use Rattle.screening.specs.Screening.{answer_of}
+use Rattle.screening.specs.Screening.{answer_with}
 use Rattle.screening.specs.declared.job.Answer.{Answer}
 use Rattle.screening.specs.declared.job.Figures.{Figures}
 use Rattle.verdict.specs.declared.verdict.Verdict.{Verdict}
@@ -51,9 +51,12 @@ unfoldable pub text_of : Result Answer Refusal → List ℕ
 text_of (Ok answer) = answer_lines answer
 text_of (Err refusal) = refused_line refusal
 
--- What `screen` writes for a job.
+-- The report of a job with what is lent beside it. `screen` lends nothing.
+abbrev pub report_with : List ℕ → List ℕ → List ℕ
+report_with job second = text_of (answer_with job second)
+
 abbrev pub report_of : List ℕ → List ℕ
-report_of job = text_of (answer_of job)
+report_of job = report_with job []
 
 -- How long a line with a number can be, and with it a factor's line, the figures and a report: no report is longer.
 abbrev pub line_room : String → ℕ

@@ -14,6 +14,9 @@ const WORKING_WORDS: usize = 22;
 // "refused " and a line feed.
 pub(crate) const REFUSED_WORDS: usize = 9;
 
+// "set " and a line feed.
+pub(crate) const SET_WORDS: usize = 5;
+
 // No report is longer: two numbers a member, and four in the figures.
 pub const REPORT_ROOM: usize = MAX_MEMBERS * (FACTOR_WORDS + 2 * MOST_DIGITS)
     + FIGURE_WORDS

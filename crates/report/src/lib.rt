@@ -1,7 +1,9 @@
-// The texts of a job: its report, which `screen` writes, and the line of its lowest rate, which `fan` writes.
+// The texts of a job: its report, which `screen` writes, the line of its lowest rate, which `fan` writes, and both by a
+// second set of coefficients, which `partner` writes.
 #![tactic(auto)]
 
 mod answer;
+mod by_set;
 mod lengths;
 mod lines;
 mod rate_lines;
@@ -13,6 +15,7 @@ ghost use Rattle.report.specs.Report.{report_of};
 ghost use Rattle.report.specs.RateLine.{rate_line};
 
 pub use answer::write_answer;
+pub use by_set::{PARTNER_ROOM, partner_text};
 pub use lengths::REPORT_ROOM;
 pub use rate_lines::RATE_LINE_ROOM;
 use rate_lines::put_rate;

@@ -8,45 +8,39 @@ use mathlib.Core.Path.{◌≡◌, refl, ap, sym, ◌∙◌}
 use mathlib.Core.List.{List}
 use lib.ListN.{length, take, length-drop}
 use lib.Seq.{take_all}
-use Rattle.refusals.specs.Grounds.{first_met, Checked}
+use Rattle.refusals.specs.Grounds.{first_met, or_else, Checked}
+use Rattle.book.specs.BookGrounds.{book_grounds}
+use Rattle.coefficients.specs.SetGrounds.{set_grounds}
 use Rattle.refusals.specs.declared.Refusal.{Refusal}
-use Rattle.book.specs.Fields.{coefficient}
-use Rattle.reading.specs.declared.error.ReadingError.{ReadingError}
-use Rattle.screening.specs.Job.{rate, concentration_of, intake_of, job_length, book_of}
-use Rattle.screening.specs.JobGrounds.{checked_job, field_grounds}
-use Rattle.screening.specs.Screening.{criterion_of, screened_at, answer_for, answer_of}
+use Rattle.screening.specs.Job.{intake_of, job_length, book_of}
+use Rattle.screening.specs.JobGrounds.{checked_with, field_grounds}
+use Rattle.screening.specs.Screening.{screened_at, answer_for, answer_with}
 use Rattle.screening.specs.Admission.{input_of, admission_for, admission_with, admission_of}
 use Rattle.screening.specs.Screenable.{Screenable}
 use Rattle.screening.specs.declared.admission.ScreeningInput.{ScreeningInput}
 use Rattle.screening.specs.declared.job.Answer.{Answer}
-use Rattle.screening.proofs.JobChecks.{refused_by_fields, JobPasses, job_passes}
+use Rattle.screening.proofs.JobChecks.{refused_by_fields, found_by_book, JobPasses, job_passes}
 
 -- The part of a job after its own bytes, as the code lends it: as many bytes as are left are all that are left.
 pub lent_book : (job : List ℕ) → take (length job - job_length) (book_of job) ≡ book_of job
 lent_book job = take_all (length job - job_length) (book_of job) (le_of_eq (length-drop job_length job))
 
-ok_is : {answer : Result ℕ ReadingError} {c n : ℕ} → answer ≡ Ok c → answer ≡ Ok n → c ≡ n
-ok_is e f = cc
-
-module _ (job book : List ℕ) {found : Checked} (told : found ≡ checked_job job book) where
-  pub refused_is : {refusal : Refusal} → found ≡ Err refusal → Err refusal ≡ admission_with job book
-  refused_is refused = ap (λ result. admission_for result job) (sym refused ∙ told)
-
-  -- One that passes is admitted with the concentration that its reading has.
-  pub admitted_is :
-      {c : ℕ} → found ≡ Ok tt → intake_of job ≡ Ok c →
-      Ok (record { by = criterion_of job; rate = rate job; concentration = c }) ≡ admission_with job book
-  admitted_is {c} passed intake =
-      let is : concentration_of job ≡ c = ok_is (job_passes job book (sym told ∙ passed)).reading.is intake in
-      ap (λ n. Ok (record { by = criterion_of job; rate = rate job; concentration = n })) (sym is)
-      ∙ ap (λ result. admission_for result job) (sym passed ∙ told)
-
--- A job whose own fields refuse it is refused, whatever book follows.
+-- A job whose own fields refuse it is refused, whatever book follows and whatever is lent beside it.
 pub refused_by_fields_is :
-    (job : List ℕ) {found : Checked} {refusal : Refusal} → found ≡ first_met (field_grounds job) → found ≡ Err refusal →
-    Err refusal ≡ admission_of job
-refused_by_fields_is job told refused =
-    refused_is job (book_of job) (sym (refused_by_fields job (book_of job) (sym told ∙ refused))) refl
+    (job second : List ℕ) {found : Checked} {refusal : Refusal} → found ≡ first_met (field_grounds job) →
+    found ≡ Err refusal → Err refusal ≡ admission_of job second
+refused_by_fields_is job second told refused =
+    ap (λ result. admission_for result job) (sym (refused_by_fields job (book_of job) second (sym told ∙ refused)))
+
+-- One whose book refuses it is refused, whatever is lent beside it.
+pub refused_by_book_is :
+    (job book second : List ℕ) {c : ℕ} {found : Checked} {refusal : Refusal} → first_met (field_grounds job) ≡ Ok tt →
+    intake_of job ≡ Ok c → found ≡ first_met (book_grounds book) → found ≡ Err refusal →
+    Err refusal ≡ admission_with job book second
+refused_by_book_is job book second passed read told refused =
+    ap (λ result. admission_for result job)
+    (sym (found_by_book job book second passed read
+    ∙ ap (λ of_book. or_else of_book (first_met (set_grounds book second))) (sym told ∙ refused)))
 
 -- What an admission says of the checks.
 refused_found :
@@ -60,23 +54,26 @@ admitted_found :
 admitted_found (Ok tt) job e = (refl, cc)
 admitted_found (Err r) job e = absurd (let z : ◌≡◌ {A = ℕ} 0 1 = cc in omega arith)
 
-module _ (job : List ℕ) {admission : Result ScreeningInput Refusal} (told : admission ≡ admission_of job) where
-  pub refused : {refusal : Refusal} → admission ≡ Err refusal → checked_job job (book_of job) ≡ Err refusal
-  refused is = refused_found (checked_job job (book_of job)) job (sym told ∙ is)
+module _
+    (job second : List ℕ) {admission : Result ScreeningInput Refusal} (told : admission ≡ admission_of job second) where
+  abbrev found : Checked
+  found = checked_with job (book_of job) second
 
-  pub refused_answer :
-      {refusal : Refusal} → admission ≡ Err refusal → Err refusal ≡ answer_of job
-  refused_answer is = ap (λ result. answer_for result job (book_of job)) (sym (refused is))
+  pub refused : {refusal : Refusal} → admission ≡ Err refusal → found ≡ Err refusal
+  refused is = refused_found found job (sym told ∙ is)
+
+  pub refused_answer : {refusal : Refusal} → admission ≡ Err refusal → Err refusal ≡ answer_with job second
+  refused_answer is = ap (λ result. answer_for result job second) (sym (refused is))
 
   module _ {input : ScreeningInput} (is : admission ≡ Ok input) where
-    pub passed : checked_job job (book_of job) ≡ Ok tt
-    passed = (admitted_found (checked_job job (book_of job)) job (sym told ∙ is)).0
+    pub passed : found ≡ Ok tt
+    passed = (admitted_found found job (sym told ∙ is)).0
 
     pub input_is : input ≡ input_of job
-    input_is = (admitted_found (checked_job job (book_of job)) job (sym told ∙ is)).1
+    input_is = (admitted_found found job (sym told ∙ is)).1
 
-    pub passes : JobPasses job (book_of job)
-    passes = job_passes job (book_of job) passed
+    pub passes : JobPasses job (book_of job) second
+    passes = job_passes job (book_of job) second passed
 
     pub screenable : Screenable input.by input.rate input.concentration (book_of job)
     screenable =
@@ -90,9 +87,9 @@ module _ (job : List ℕ) {admission : Result ScreeningInput Refusal} (told : ad
 
     pub admitted_answer :
         {answer : Answer} →
-        answer ≡ screened_at input.by (book_of job) (coefficient (book_of job)) input.rate input.concentration →
-        Ok answer ≡ answer_of job
+        answer ≡ screened_at input.by (book_of job) second input.rate input.concentration →
+        Ok answer ≡ answer_with job second
     admitted_answer answer =
         ap Ok answer
-        ∙ ap (λ r. Ok (screened_at r.by (book_of job) (coefficient (book_of job)) r.rate r.concentration)) input_is
-        ∙ ap (λ result. answer_for result job (book_of job)) (sym passed)
+        ∙ ap (λ r. Ok (screened_at r.by (book_of job) second r.rate r.concentration)) input_is
+        ∙ ap (λ result. answer_for result job second) (sym passed)

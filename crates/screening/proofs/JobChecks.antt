@@ -12,10 +12,11 @@ use Rattle.refusals.specs.Grounds.{ground_of, first_met, or_else, Checked}
 use Rattle.refusals.specs.declared.Refusal.{Refusal}
 use Rattle.refusals.proofs.FirstMet.{first_of_both, not_met, both_pass}
 use Rattle.book.specs.BookGrounds.{book_grounds, Accepted}
+use Rattle.coefficients.specs.SetGrounds.{set_grounds}
 use Rattle.book.specs.Rates.{max_rate}
 use Rattle.reading.specs.Reading.{unit_of, medium_of, reading_unusable, concentration_too_high}
-use Rattle.reading.specs.Reading.{max_concentration, refusal_of, intake_checked}
-use Rattle.std.specs.Prelude.{Result, Ok, Err}
+use Rattle.reading.specs.Reading.{max_concentration, intake_checked}
+use Rattle.std.specs.Prelude.{Ok, Err}
 use Rattle.reading.specs.declared.error.ReadingError.{ReadingError}
 use Rattle.reading.proofs.PartsJoined.{concentration_within}
 use Rattle.screening.specs.Job.{rate, medium, unit, target, attenuation, reading_of, for_reading}
@@ -23,15 +24,23 @@ use Rattle.screening.specs.Job.{concentration_of, intake_of, exposure_of, job_le
 use Rattle.exposure.specs.Exposure.{exposure_out_of_range}
 use Rattle.verdict.specs.Verdict.{max_target}
 use Rattle.screening.specs.JobGrounds.{code_unknown, attenuation_out_of_range}
-use Rattle.screening.specs.JobGrounds.{checked_job, field_grounds, reading_grounds}
+use Rattle.screening.specs.JobGrounds.{checked_with, checked_job, job_grounds, field_grounds, reading_grounds}
+
+-- What the checks of a book and of a second set find, and before them that of the reading.
+abbrev pub book_found : List ℕ → List ℕ → Checked
+book_found book second = or_else (first_met (book_grounds book)) (first_met (set_grounds book second))
+
+abbrev pub later_found : List ℕ → List ℕ → List ℕ → Checked
+later_found job book second = or_else (first_met (reading_grounds job)) (book_found book second)
 
 pub checked_by_parts :
-    (job book : List ℕ)
-    → checked_job job book ≡ or_else (first_met (field_grounds job))
-    (or_else (first_met (reading_grounds job)) (first_met (book_grounds book)))
-checked_by_parts job book =
-    first_of_both (field_grounds job) (reading_grounds job ++ book_grounds book)
-    ∙ ap (or_else (first_met (field_grounds job))) (first_of_both (reading_grounds job) (book_grounds book))
+    (job book second : List ℕ)
+    → checked_with job book second ≡ or_else (first_met (field_grounds job)) (later_found job book second)
+checked_by_parts job book second =
+    first_of_both (field_grounds job) (reading_grounds job ++ (book_grounds book ++ set_grounds book second))
+    ∙ ap (or_else (first_met (field_grounds job)))
+    (first_of_both (reading_grounds job) (book_grounds book ++ set_grounds book second)
+    ∙ ap (or_else (first_met (reading_grounds job))) (first_of_both (book_grounds book) (set_grounds book second)))
 
 -- A reading's grounds are those that its intake answers.
 of_intake :
@@ -46,34 +55,28 @@ pub reading_checked : (job : List ℕ) → intake_checked (intake_of job) ≡ fi
 reading_checked job =
     of_intake (reading_unusable (reading_of job)) (for_reading concentration_too_high job) (concentration_of job)
 
--- What the code finds after the fields have passed: the reading's error, or with a concentration what the book's checks
--- find.
-module _ (job book : List ℕ) (passed : first_met (field_grounds job) ≡ Ok tt) where
-  after_fields : checked_job job book ≡ or_else (intake_checked (intake_of job)) (first_met (book_grounds book))
-  after_fields =
-      checked_by_parts job book
-      ∙ ap (λ first. or_else first (or_else (first_met (reading_grounds job)) (first_met (book_grounds book)))) passed
-      ∙ ap (λ reading. or_else reading (first_met (book_grounds book))) (sym (reading_checked job))
+-- After the job's own fields and its reading the book's checks come, and then the second set's.
+pub found_by_book :
+    (job book second : List ℕ) {c : ℕ} → first_met (field_grounds job) ≡ Ok tt → intake_of job ≡ Ok c →
+    checked_with job book second ≡ book_found book second
+found_by_book job book second passed read =
+    checked_by_parts job book second
+    ∙ ap (λ first. or_else first (later_found job book second)) passed
+    ∙ ap (λ reading. or_else reading (book_found book second)) (sym (reading_checked job) ∙ ap intake_checked read)
 
-  pub refused_by_reading :
-      {answer : Result ℕ ReadingError} {error : ReadingError} → answer ≡ intake_of job → answer ≡ Err error →
-      checked_job job book ≡ Err (refusal_of error)
-  refused_by_reading told is =
-      after_fields ∙ ap (λ reading. or_else (intake_checked reading) (first_met (book_grounds book))) (sym told ∙ is)
-
-  pub found_by_book :
-      {answer : Result ℕ ReadingError} {c : ℕ} {found : Checked} → answer ≡ intake_of job → answer ≡ Ok c →
-      found ≡ first_met (book_grounds book) → found ≡ checked_job job book
-  found_by_book told is found =
-      found ∙ sym (after_fields
-      ∙ ap (λ reading. or_else (intake_checked reading) (first_met (book_grounds book))) (sym told ∙ is))
+-- Where a job passes its checks, a second set's are all that is left.
+pub found_by_set :
+    (job book second : List ℕ) → checked_job job book ≡ Ok tt →
+    checked_with job book second ≡ first_met (set_grounds book second)
+found_by_set job book second passed =
+    first_of_both (job_grounds job book) (set_grounds book second)
+    ∙ ap (λ found. or_else found (first_met (set_grounds book second))) passed
 
 pub refused_by_fields :
-    (job book : List ℕ) {refusal : Refusal} → first_met (field_grounds job) ≡ Err refusal →
-    checked_job job book ≡ Err refusal
-refused_by_fields job book refused =
-    checked_by_parts job book
-    ∙ ap (λ first. or_else first (or_else (first_met (reading_grounds job)) (first_met (book_grounds book)))) refused
+    (job book second : List ℕ) {refusal : Refusal} → first_met (field_grounds job) ≡ Err refusal →
+    checked_with job book second ≡ Err refusal
+refused_by_fields job book second refused =
+    checked_by_parts job book second ∙ ap (λ first. or_else first (later_found job book second)) refused
 
 pub record FieldsPass (job : List ℕ) : Type 0 where
   pub long : job_length ≤ length job
@@ -118,13 +121,20 @@ reading_passes job passed =
           concentration_within (unit_of (unit job)) (medium_of (medium job)) (attenuation job) (reading_of job) g8.0;
     }
 
-pub record JobPasses (job book : List ℕ) : Type 0 where
+pub record JobPasses (job book second : List ℕ) : Type 0 where
   pub fields : FieldsPass job
   pub reading : ReadingPasses job
   pub accepted : Accepted book
+  pub set : first_met (set_grounds book second) ≡ Ok tt
 
-pub job_passes : (job book : List ℕ) → checked_job job book ≡ Ok tt → JobPasses job book
-job_passes job book passed =
-    let parts = both_pass _ _ (sym (checked_by_parts job book) ∙ passed) in
+pub job_passes : (job book second : List ℕ) → checked_with job book second ≡ Ok tt → JobPasses job book second
+job_passes job book second passed =
+    let parts = both_pass _ _ (sym (checked_by_parts job book second) ∙ passed) in
     let later = both_pass _ _ parts.1 in
-    record { fields = fields_pass job parts.0; reading = reading_passes job later.0; accepted = later.1 }
+    let last = both_pass _ _ later.1 in
+    record {
+      fields = fields_pass job parts.0;
+      reading = reading_passes job later.0;
+      accepted = last.0;
+      set = last.1;
+    }

@@ -7,6 +7,7 @@ pub mod Soundness
 pub mod Falling
 -- The arrays of a book.
 pub mod FactorsAtRate
+pub mod SameNumbers
 pub mod HeldNumbers
 -- The whole job: its checks, its answer, and demand 3.
 pub mod CodesTaken
@@ -17,4 +18,9 @@ pub mod Answers
 pub mod AnswerByChecks
 pub mod Restated
 pub mod UnroundedShares
+-- A second set.
+pub mod WrittenFactors
+pub mod WrittenAnswer
+pub mod WrittenJob
+pub mod SecondSet
 pub mod Promised

@@ -1,6 +1,6 @@
 -- Everything that is promised. Demand 3's half of the factors is proved in balance, what holds of any assessment in
 -- verdict, the reading's promise in reading, the exposure's in exposure, and the rest in OneDenominator, Soundness,
--- Falling, Answers, Restated, UnroundedShares and JobChecks.
+-- Falling, Answers, Restated, UnroundedShares, SecondSet and JobChecks.
 use Prim.Native.Nat.{ℕ}
 use mathlib.Core.Path.{◌≡◌, refl}
 use mathlib.Core.Bool.{Bool, true, false, cond}
@@ -25,6 +25,7 @@ use Rattle.screening.proofs.JobChecks.{reading_checked}
 use Rattle.screening.proofs.Answers.{answer_promise, levels, no_worse_answer}
 use Rattle.screening.proofs.Restated.{whole_hours}
 use Rattle.screening.proofs.UnroundedShares.{unrounded_shares}
+use Rattle.screening.proofs.SecondSet.{second_set}
 
 pub demand_3 : Demand3
 demand_3 =
@@ -35,8 +36,8 @@ demand_3 =
       answer = answer_promise;
       no_worse =
           λ by book coefficient v w C accepted rises within. no_worse book coefficient v w accepted rises within by C;
-      no_worse_answer = λ job other figures others same rises answered other-answered.
-          no_worse_answer job other same figures others rises answered other-answered;
+      no_worse_answer = λ job other second figures others same rises answered other-answered.
+          no_worse_answer job other second same figures others rises answered other-answered;
       level = level_promise;
       equilibrium_at_most_one =
           λ book coefficient v accepted within some. equilibrium_at_most_one book coefficient v accepted within;
@@ -61,6 +62,7 @@ promises =
       exposure = exposure_promises;
       whole_hours = whole_hours;
       unrounded_shares = unrounded_shares;
+      second_set = second_set;
       reading = reading_promise;
       grounds_of_amount =
           λ amount. whole_grounds (unusable (figure amount)) (ltb max_concentration (whole amount)) (whole amount);

@@ -1,6 +1,6 @@
 -- Two jobs whose bytes from the kind on are the same have the same fields but for the rate. So they have the same
 -- checks but for the two that read the length and the rate.
-use Prim.Native.Nat.{ℕ, ◌+◌, ◌-◌, ◌*◌, ◌^◌, ◌≤◌, ◌<◌}
+use Prim.Native.Nat.{ℕ, ◌+◌, ◌-◌, ◌≤◌, ◌<◌}
 use native.Mathlib.Omega.{arith}
 use mathlib.Core.Path.{◌≡◌, ap, ap₂, sym, ◌∙◌}
 use mathlib.Core.List.{List, [], ◌∷◌}
@@ -10,7 +10,7 @@ use lib.Seq.{get_or-drop, drop-drop}
 use Rattle.refusals.specs.Grounds.{ground_of, first_met, or_else}
 use Rattle.refusals.specs.declared.Refusal.TheVariants.{ReadingUnusable, ConcentrationTooHigh}
 use Rattle.numbers.specs.Bytes.{u16_at, u32_at, u64_at}
-use Rattle.book.specs.BookGrounds.{book_grounds}
+use Rattle.numbers.proofs.AlikeBytes.{Alike, u16_alike, u32_alike, u64_alike}
 use Rattle.book.specs.Rates.{max_rate}
 use Rattle.reading.specs.Reading.{unit_of, medium_of, reading_unusable, concentration, concentration_too_high}
 use Rattle.reading.specs.declared.amounts.Unit.{Unit}
@@ -19,25 +19,26 @@ use Rattle.reading.specs.declared.amounts.Reading.{Reading}
 use Rattle.screening.specs.Job.{rate_length, rate, kind, kind_of, medium, unit, target, attenuation, job_length}
 use Rattle.screening.specs.Job.{book_of, reading_of, for_reading, concentration_of, group_at, exposure_of}
 use Rattle.screening.specs.JobGrounds.{code_unknown, attenuation_out_of_range}
-use Rattle.screening.specs.JobGrounds.{checked_job, field_grounds, reading_grounds}
+use Rattle.screening.specs.JobGrounds.{checked_with, field_grounds, reading_grounds}
 use Rattle.screening.specs.Screening.{criterion_for, criterion_of}
 use Rattle.verdict.specs.declared.verdict.Criterion.{Criterion}
-use Rattle.screening.proofs.JobChecks.{checked_by_parts}
+use Rattle.screening.proofs.JobChecks.{checked_by_parts, book_found}
 
 pub record SameFields (a b : List ℕ) : Type 0 where
   pub byte : (k : ℕ) → rate_length ≤ k → k < job_length → get_or a k 0 ≡ get_or b k 0
 
 module _ {a b : List ℕ} (same : SameFields a b) where
-  u16_same : (k : ℕ) → rate_length ≤ k → k + 1 < job_length → u16_at a k ≡ u16_at b k
-  u16_same k low l = ap₂ (λ x y. x + 2 ^ 8 * y) (same.byte k low (omega arith)) (same.byte (k + 1) (omega arith) l)
+  alike : (k size : ℕ) → rate_length ≤ k → k + size ≤ job_length → Alike a k b k size
+  alike k size low high = record { byte = λ r l. same.byte (k + r) (omega arith) (omega arith) }
 
-  u32_same : (k : ℕ) → rate_length ≤ k → k + 3 < job_length → u32_at a k ≡ u32_at b k
-  u32_same k low l =
-      ap₂ (λ x y. x + 2 ^ 16 * y) (u16_same k low (omega arith)) (u16_same (k + 2) (omega arith) (omega arith))
+  u16_same : (k : ℕ) → rate_length ≤ k → k + 2 ≤ job_length → u16_at a k ≡ u16_at b k
+  u16_same k low high = u16_alike (alike k 2 low high)
 
-  u64_same : (k : ℕ) → rate_length ≤ k → k + 7 < job_length → u64_at a k ≡ u64_at b k
-  u64_same k low l =
-      ap₂ (λ x y. x + 2 ^ 32 * y) (u32_same k low (omega arith)) (u32_same (k + 4) (omega arith) (omega arith))
+  u32_same : (k : ℕ) → rate_length ≤ k → k + 4 ≤ job_length → u32_at a k ≡ u32_at b k
+  u32_same k low high = u32_alike (alike k 4 low high)
+
+  u64_same : (k : ℕ) → rate_length ≤ k → k + 8 ≤ job_length → u64_at a k ≡ u64_at b k
+  u64_same k low high = u64_alike (alike k 8 low high)
 
   pub codes_same : code_unknown a ≡ code_unknown b
   unfolding code_unknown
@@ -56,7 +57,7 @@ module _ {a b : List ℕ} (same : SameFields a b) where
   pub target_same : target a ≡ target b
   target_same = u32_same 8 (omega arith) (omega arith)
 
-  group_same : (k : ℕ) → rate_length ≤ k → k + 7 < job_length → group_at a k ≡ group_at b k
+  group_same : (k : ℕ) → rate_length ≤ k → k + 8 ≤ job_length → group_at a k ≡ group_at b k
   group_same k low l =
       rw (
         u16_same k low (omega arith),
@@ -96,6 +97,14 @@ module _ {a b : List ℕ} (same : SameFields a b) where
       first_met (field_grounds a) ≡ first_met (field_grounds b)
   fields_found_same short fast = rw (short, codes_same, fast, target_same, attenuation_same, exposure_same)
 
+-- Two jobs that begin with the same bytes, the rate's among them.
+module _ (a b : List ℕ) (byte : (k : ℕ) → k < job_length → get_or a k 0 ≡ get_or b k 0) where
+  pub start_same : SameFields a b
+  start_same = record { byte = λ k low high. byte k high }
+
+  pub rate_same : rate a ≡ rate b
+  rate_same = u32_alike {k = 0} {j = 0} (record { byte = λ r l. byte (0 + r) (omega arith) })
+
 -- Two jobs that differ in the rate alone.
 module _ (a b : List ℕ) (same : drop rate_length a ≡ drop rate_length b) where
   byte_same : (k : ℕ) → rate_length ≤ k → get_or a k 0 ≡ get_or b k 0
@@ -122,10 +131,10 @@ module _ (a b : List ℕ) (same : drop rate_length a ≡ drop rate_length b) whe
 
   pub checked_same :
       ltb (length a) job_length ≡ ltb (length b) job_length → ltb max_rate (rate a) ≡ ltb max_rate (rate b) →
-      checked_job a (book_of a) ≡ checked_job b (book_of b)
-  checked_same short fast =
-      checked_by_parts a (book_of a)
+      (second : List ℕ) → checked_with a (book_of a) second ≡ checked_with b (book_of b) second
+  checked_same short fast second =
+      checked_by_parts a (book_of a) second
       ∙ ap₂ or_else
       (fields_found_same fields_same short fast)
-      (ap₂ or_else (reading_found_same fields_same) (ap (λ book. first_met (book_grounds book)) book_same))
-      ∙ sym (checked_by_parts b (book_of b))
+      (ap₂ or_else (reading_found_same fields_same) (ap (λ book. book_found book second) book_same))
+      ∙ sym (checked_by_parts b (book_of b) second)

@@ -5,7 +5,8 @@ use Prim.Native.Nat.{ℕ, ◌*◌, ◌<◌}
 use native.Mathlib.Omega.{arith}
 use mathlib.Core.Path.{◌≡◌, ap, sym, subst}
 use mathlib.Core.List.{List}
-use Rattle.book.specs.Fields.{members, coefficient}
+use Rattle.book.specs.Fields.{members}
+use Rattle.coefficients.specs.Sets.{coefficient_in_use}
 use Rattle.balance.specs.Factors.{factor_at}
 use Rattle.exposure.specs.Totals.{Z, X, Y}
 use Rattle.exposure.specs.declared.groups.Exposure.{Exposure}
@@ -13,7 +14,7 @@ use Rattle.exposure.specs.declared.kind.Kind.{Kind}
 use Rattle.rounding.proofs.Between.{unrounded}
 use Rattle.screening.specs.Job.{rate, kind, kind_of, target, exposure_of, book_of}
 use Rattle.verdict.specs.Verdict.{verdict_at, level}
-use Rattle.screening.specs.Screening.{criterion_for, assessment_at, answer_of}
+use Rattle.screening.specs.Screening.{criterion_for, assessment_at, answer_with}
 use Rattle.verdict.specs.CommonFactor.{Unchanged}
 use Rattle.screening.specs.UnroundedShares.{years_bound, years_assessment}
 use Rattle.screening.specs.UnroundedShares.{years_assessment_of, Unrounded, UnroundedPromise}
@@ -52,18 +53,19 @@ module _ (e : Exposure) (exact : Unrounded e) where
       (omega arith)
 
 answer :
-    (job : List ℕ) (answer : Answer) → kind_of (kind job) ≡ Kind.Dose →
-    Unrounded (exposure_of job) → answer_of job ≡ Ok answer →
-    (answer.figures.verdict ≡ verdict_at (years_assessment_of job) answer.figures.concentration)
-    × (answer.figures.level ≡ level (years_assessment_of job))
-answer job given dose exact answered =
+    (job second : List ℕ) (answer : Answer) → kind_of (kind job) ≡ Kind.Dose →
+    Unrounded (exposure_of job) → answer_with job second ≡ Ok answer →
+    (answer.figures.verdict ≡ verdict_at (years_assessment_of job second) answer.figures.concentration)
+    × (answer.figures.level ≡ level (years_assessment_of job second))
+answer job second given dose exact answered =
     let book = book_of job in
-    as_judged job given answered (years_assessment_of job)
+    let in_use = coefficient_in_use book second in
+    as_judged job second given answered (years_assessment_of job second)
     (subst
-    (λ k. Unchanged (years_assessment_of job)
-    (assessment_at (criterion_for k (exposure_of job) (target job)) book (coefficient book) (rate job)))
+    (λ k. Unchanged (years_assessment_of job second)
+    (assessment_at (criterion_for k (exposure_of job) (target job)) book in_use (rate job)))
     (sym dose)
-    (judged (exposure_of job) exact (some_years job given answered) (target job) book (coefficient book) (rate job)))
+    (judged (exposure_of job) exact (some_years job second given answered) (target job) book in_use (rate job)))
 
 adults_alone : (e : Exposure) → e.child.years ≡ 0 → 0 < Z e → Unrounded e
 adults_alone e none some_years =

@@ -1,9 +1,9 @@
--- What the checks of a job leave: what its room is screened on, or the refusal alone.
+-- What the checks of a job and a second set leave: what its room is screened on, or the refusal alone.
 use Rattle.refusals.specs.declared.Refusal.{Refusal}
 use Rattle.refusals.specs.Grounds.{Checked}
 use Rattle.std.specs.Prelude.{ℕ, List, Ok, Err, Result}
 use Rattle.screening.specs.Job.{rate, concentration_of, book_of}
-use Rattle.screening.specs.JobGrounds.{checked_job}
+use Rattle.screening.specs.JobGrounds.{checked_with}
 use Rattle.screening.specs.Screening.{criterion_of}
 use Rattle.screening.specs.declared.admission.ScreeningInput.{ScreeningInput}
 
@@ -14,8 +14,8 @@ abbrev pub admission_for : Checked → List ℕ → Result ScreeningInput Refusa
 admission_for (Ok _) job = Ok (input_of job)
 admission_for (Err refusal) job = Err refusal
 
-abbrev pub admission_with : List ℕ → List ℕ → Result ScreeningInput Refusal
-admission_with job book = admission_for (checked_job job book) job
+abbrev pub admission_with : List ℕ → List ℕ → List ℕ → Result ScreeningInput Refusal
+admission_with job book second = admission_for (checked_with job book second) job
 
-abbrev pub admission_of : List ℕ → Result ScreeningInput Refusal
-admission_of job = admission_with job (book_of job)
+abbrev pub admission_of : List ℕ → List ℕ → Result ScreeningInput Refusal
+admission_of job second = admission_with job (book_of job) second

@@ -1,4 +1,4 @@
--- The grounds for refusing a job with its book, in checking order (document 01, grounds 1 to 18).
+-- The grounds for refusing a job with its book, in checking order (document 01, grounds 1 to 18; document 02, 23).
 use Rattle.std.specs.Prelude.{ℕ, Bool, not, ◌||◌, ◌&&◌, List, [], ◌∷◌, ◌++◌, length, ltb, eqb}
 use Rattle.refusals.specs.Grounds.{Ground, ground_of, first_met, Checked}
 use Rattle.refusals.specs.declared.Refusal.TheVariants.{JobTooShort, CodeUnknown, RateTooHigh, TargetTooHigh}
@@ -8,6 +8,7 @@ use Rattle.book.specs.BookGrounds.{book_grounds}
 use Rattle.book.specs.Rates.{rate_too_high}
 use Rattle.verdict.specs.Verdict.{max_target}
 use Rattle.reading.specs.Reading.{reading_unusable, concentration_too_high, whole_attenuation}
+use Rattle.coefficients.specs.SetGrounds.{set_grounds}
 use Rattle.screening.specs.Job.{rate, kind, medium, unit, zero_byte, target, attenuation}
 use Rattle.screening.specs.Job.{reading_of, for_reading, exposure_of, job_length}
 use Rattle.exposure.specs.Exposure.{exposure_out_of_range}
@@ -52,6 +53,13 @@ reading_grounds job =
 abbrev pub job_grounds : List ℕ → List ℕ → List Ground
 job_grounds job book = field_grounds job ++ reading_grounds job ++ book_grounds book
 
+-- With a second set: the job's grounds, then the set's.
+abbrev pub grounds_with : List ℕ → List ℕ → List ℕ → List Ground
+grounds_with job book second = job_grounds job book ++ set_grounds book second
+
 -- What the checks find.
+abbrev pub checked_with : List ℕ → List ℕ → List ℕ → Checked
+checked_with job book second = first_met (grounds_with job book second)
+
 abbrev pub checked_job : List ℕ → List ℕ → Checked
-checked_job job book = first_met (job_grounds job book)
+checked_job job book = checked_with job book []

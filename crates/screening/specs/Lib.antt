@@ -5,5 +5,6 @@ pub mod Admission
 pub mod Screenable
 pub mod WholeHours
 pub mod UnroundedShares
+pub mod SecondSet
 pub mod Promises
 pub mod Private

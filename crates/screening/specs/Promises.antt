@@ -4,7 +4,8 @@ use Rattle.refusals.specs.declared.Refusal.{Refusal}
 use Rattle.std.specs.Prelude.{ℕ, ◌*◌, ◌-◌, ◌≤◌, ◌<◌, ◌≡◌, List, [], ◌∷◌, ltb, get_or, drop, Option, Result, Ok}
 use Rattle.refusals.specs.Grounds.{ground_of, first_met}
 use Rattle.refusals.specs.declared.Refusal.TheVariants.{ReadingUnusable, ConcentrationTooHigh}
-use Rattle.book.specs.Fields.{members, scale_of, coefficient}
+use Rattle.book.specs.Fields.{members, scale_of}
+use Rattle.coefficients.specs.Sets.{coefficient_in_use}
 use Rattle.book.specs.BookGrounds.{Accepted}
 use Rattle.book.specs.Rates.{max_rate, rates_at}
 use Rattle.balance.specs.Chain.{Chain, chain_of}
@@ -20,10 +21,11 @@ use Rattle.verdict.specs.Verdict.{Assessment, verdict_at, verdict_order}
 use Rattle.verdict.specs.Promises.{LevelPromise, AssessmentPromises}
 use Rattle.verdict.specs.Promises as any
 use Rattle.verdict.specs.WorkingLevels.{equilibrium, no_figure, equilibrium_number, micro_number}
-use Rattle.screening.specs.Screening.{criterion_of, assessment_at, alpha_at, alpha_at_rest, answer_of}
+use Rattle.screening.specs.Screening.{criterion_of, assessment_at, alpha_at, alpha_at_rest, answer_with}
 use Rattle.verdict.specs.CommonFactor.{CommonFactor, Unchanged}
 use Rattle.screening.specs.WholeHours.{WholeHoursPromise}
 use Rattle.screening.specs.UnroundedShares.{UnroundedPromise}
+use Rattle.screening.specs.SecondSet.{SecondSetPromise}
 use Rattle.screening.specs.declared.job.Answer.{Answer}
 use Rattle.verdict.specs.declared.verdict.Criterion.{Criterion}
 use Rattle.verdict.specs.declared.verdict.Verdict.{Verdict}
@@ -43,21 +45,22 @@ abbrev pub VerdictPromise : Criterion → List ℕ → (ℕ → ℕ → ℕ) →
 VerdictPromise by book coefficient v C given =
     any.VerdictPromise (assessment_at by book coefficient v) (exact_denominator book v) (exact_factor book v) C given
 
--- What the answer to a job promises: where it has figures, its verdict tells the truth.
-abbrev pub AnswerPromise : List ℕ → Result Answer Refusal → Type 0
-AnswerPromise job result =
+-- What the answer to a job promises, with a second set or without one: where it has figures, its verdict tells the
+-- truth.
+abbrev pub AnswerPromise : List ℕ → List ℕ → Result Answer Refusal → Type 0
+AnswerPromise job second result =
     (answer : Answer) → result ≡ Ok answer →
-    VerdictPromise (criterion_of job) (book_of job) (coefficient (book_of job))
+    VerdictPromise (criterion_of job) (book_of job) (coefficient_in_use (book_of job) second)
     (rate job) answer.figures.concentration answer.figures.verdict
 
 -- What the working levels of an answer say, by their numbers: they are none's where Fm's divisor is 0, and nowhere
 -- else; Fm is at most 1,000,000.
-pub record LevelsPromise (job : List ℕ) (working : Option WorkingLevels) : Type 0 where
+pub record LevelsPromise (job second : List ℕ) (working : Option WorkingLevels) : Type 0 where
   pub none :
-      alpha_at_rest (book_of job) (coefficient (book_of job)) ≡ 0 →
+      alpha_at_rest (book_of job) (coefficient_in_use (book_of job) second) ≡ 0 →
       (equilibrium_number working ≡ no_figure) × (micro_number working ≡ no_figure)
   pub some :
-      0 < alpha_at_rest (book_of job) (coefficient (book_of job)) →
+      0 < alpha_at_rest (book_of job) (coefficient_in_use (book_of job) second) →
       (equilibrium_number working ≤ 1000000) × (micro_number working < no_figure)
 
 pub record Demand3 : Type 0 where
@@ -70,7 +73,7 @@ pub record Demand3 : Type 0 where
   pub verdict :
       (by : Criterion) (book : List ℕ) (coefficient : ℕ → ℕ → ℕ) (v C : ℕ) → Accepted book → v ≤ max_rate →
       VerdictPromise by book coefficient v C (verdict_at (assessment_at by book coefficient v) C)
-  pub answer : (job : List ℕ) → AnswerPromise job (answer_of job)
+  pub answer : (job second : List ℕ) → AnswerPromise job second (answer_with job second)
   -- a higher rate never gives a worse verdict
   pub no_worse :
       (by : Criterion) (book : List ℕ) (coefficient : ℕ → ℕ → ℕ) (v w C : ℕ) → Accepted book → v ≤ w → w ≤ max_rate →
@@ -78,8 +81,8 @@ pub record Demand3 : Type 0 where
       ≤ verdict_order (verdict_at (assessment_at by book coefficient v) C)
   -- nor does a job that differs from another in the rate's bytes alone
   pub no_worse_answer :
-      (job other : List ℕ) (answer another : Answer) → drop rate_length job ≡ drop rate_length other →
-      rate job ≤ rate other → answer_of job ≡ Ok answer → answer_of other ≡ Ok another →
+      (job other second : List ℕ) (answer another : Answer) → drop rate_length job ≡ drop rate_length other →
+      rate job ≤ rate other → answer_with job second ≡ Ok answer → answer_with other second ≡ Ok another →
       verdict_order another.figures.verdict ≤ verdict_order answer.figures.verdict
   pub level : (a : Assessment) → LevelPromise a
   -- Fm is at most 1,000,000
@@ -87,7 +90,9 @@ pub record Demand3 : Type 0 where
       (book : List ℕ) (coefficient : ℕ → ℕ → ℕ) (v : ℕ) →
       Accepted book → v ≤ max_rate → 0 < alpha_at_rest book coefficient →
       equilibrium (alpha_at book coefficient v) (alpha_at_rest book coefficient) ≤ 1000000
-  pub levels : (job : List ℕ) (answer : Answer) → answer_of job ≡ Ok answer → LevelsPromise job answer.figures.working
+  pub levels :
+      (job second : List ℕ) (answer : Answer) →
+      answer_with job second ≡ Ok answer → LevelsPromise job second answer.figures.working
   -- and its divisor is the sum at rate 0
   pub at_rest : (book : List ℕ) (coefficient : ℕ → ℕ → ℕ) → alpha_at book coefficient 0 ≡ alpha_at_rest book coefficient
 
@@ -103,6 +108,8 @@ pub record Promises : Type 0 where
   pub whole_hours : WholeHoursPromise
   -- so does yearly dose, where no share is rounded (R-2)
   pub unrounded_shares : UnroundedPromise
+  -- an answer by a second set is that of the book with the set written over its own (R-7)
+  pub second_set : SecondSetPromise
   -- a number is the smallest that is not below the exact value
   pub reading : (amount : Amount) → ReadingPromise amount (whole_answer amount)
   -- and the grounds are those of the list, 7 and 8, of one amount and of a job's reading

@@ -1,10 +1,12 @@
 // What is answered to a whole job.
 use book::MAX_MEMBERS;
+use coefficients::CoefficientSet;
 use verdict::{Verdict, WorkingLevels};
 
-// What is worked out for an accepted job, besides its factors.
+// What is worked out for an accepted job, besides its factors, and by which coefficients.
 #[derive(Clone, Copy)]
 pub struct Figures {
+    pub set: CoefficientSet,
     pub concentration: u64,
     pub verdict: Verdict,
     pub level: u32,

@@ -7,9 +7,9 @@ mod fields;
 mod job;
 mod screened;
 
-ghost use Rattle.std.specs.Prelude.{◌≡◌};
+ghost use Rattle.std.specs.Prelude.{◌≡◌, []};
 ghost use Rattle.screening.specs.Promises.{AnswerPromise};
-ghost use Rattle.screening.specs.Screening.{answer_of};
+ghost use Rattle.screening.specs.Screening.{answer_of, answer_with};
 
 pub use admission::{ScreeningInput, admit};
 pub use fields::{JOB_LENGTH, LONGEST_JOB};
@@ -23,8 +23,16 @@ pub use verdict::{Criterion, Verdict, WorkingLevels};
 // balance bears out.
 pub fn screen_job(job: &[u8]) -> Result<Answer, Refusal>
     ensures answered { result ≡ answer_of job.now }
-    ensures sound { AnswerPromise job.now result }
+    ensures sound { AnswerPromise job.now [] result }
 {
-    let input = admit(job)?;
-    Ok(screened(input, &job[JOB_LENGTH..]))
+    screen_job_with(job, &[])
+}
+
+// The same by a second set of coefficients, lent beside the job; no bytes mean that none is lent.
+pub fn screen_job_with(job: &[u8], second: &[u8]) -> Result<Answer, Refusal>
+    ensures answered { result ≡ answer_with job.now second.now }
+    ensures sound { AnswerPromise job.now second.now result }
+{
+    let input = admit(job, second)?;
+    Ok(screened(input, &job[JOB_LENGTH..], second))
 }

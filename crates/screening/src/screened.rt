@@ -1,7 +1,7 @@
 // What is worked out for an accepted job.
-ghost use Rattle.std.specs.Prelude.{◌≡◌, ◌≤◌, length, replicate};
+ghost use Rattle.std.specs.Prelude.{◌≡◌, ◌≤◌, length, take, replicate};
 ghost use Rattle.book.specs.Limits.{max_members};
-ghost use Rattle.book.specs.Fields.{members, coefficient};
+ghost use Rattle.book.specs.Fields.{members};
 ghost use Rattle.balance.specs.Factors.{factor_list};
 ghost use Rattle.verdict.specs.Verdict.{verdict_at};
 ghost use Rattle.screening.specs.Screening.{assessment_at, screened_at};
@@ -12,7 +12,8 @@ ghost use Rattle.screening.specs.Private.HeldNumbers.{figures_in, Figurable};
 use crate::admission::ScreeningInput;
 use crate::job::{Answer, Figures};
 use balance::fill_accepted;
-use book::{AcceptedChain, Coefficients, MAX_MEMBERS, Rate, read_chain, read_numbers};
+use book::{AcceptedChain, Coefficients, MAX_MEMBERS, Rate, read_chain};
+use coefficients::{NumbersInUse, numbers_in_use};
 use verdict::{Criterion, Verdict, alpha_sum, judged, sums_of, verdict_by, working_levels};
 
 // The factors at a rate, in an array of zeros.
@@ -30,23 +31,27 @@ fn factor_list(v: Rate, chain: AcceptedChain<'_>) -> [u64; MAX_MEMBERS]
 fn figures_of(
     by: Criterion,
     concentration: u64,
-    divisor: u16,
-    coefficients: &[Coefficients],
+    numbers: &NumbersInUse,
     factors: &[u64],
     at_zero: &[u64],
 ) -> Figures
-    requires { Figurable by concentration divisor coefficients.now factors.now at_zero.now }
-    ensures { result ≡ figures_in by concentration divisor coefficients.now factors.now at_zero.now }
+    requires few { numbers.now.members ≤ max_members }
+    requires figurable { let rows = take numbers.now.members numbers.now.rows in
+        Figurable by concentration numbers.now.divisor rows factors.now at_zero.now }
+    ensures { let rows = take numbers.now.members numbers.now.rows in
+        result ≡ figures_in numbers.now.set by concentration numbers.now.divisor rows factors.now at_zero.now }
 {
+    let coefficients = &numbers.rows[..numbers.members];
     let found = judged(by, concentration, coefficients, factors);
     let alpha = alpha_sum(coefficients, factors);
     let alpha_at_zero = alpha_sum(coefficients, at_zero);
     let verdict = found.verdict;
     Figures {
+        set: numbers.set,
         concentration,
         verdict,
         level: found.level,
-        working: working_levels(alpha, alpha_at_zero, concentration, divisor),
+        working: working_levels(alpha, alpha_at_zero, concentration, numbers.divisor),
     }
 }
 
@@ -70,14 +75,14 @@ pub fn verdict_at(
     verdict_by(sums, concentration)
 }
 
-// The answer for a room whose book is checked, and read once.
-pub(crate) fn screened(input: ScreeningInput, book: &[u8]) -> Answer
+// The answer for a room whose book and second set are checked, and read once.
+pub(crate) fn screened(input: ScreeningInput, book: &[u8], second: &[u8]) -> Answer
     requires { Screenable input.by input.rate input.concentration book.now }
-    ensures { result ≡ screened_at input.by book.now (coefficient book.now) input.rate input.concentration }
+    ensures { result ≡ screened_at input.by book.now second.now input.rate input.concentration }
 {
     let held = read_chain(book);
-    let numbers = read_numbers(book);
     let chain = AcceptedChain { chain: &held };
+    let numbers = numbers_in_use(chain, second);
     let rate = Rate {
         hundredths: input.rate,
     };
@@ -87,8 +92,7 @@ pub(crate) fn screened(input: ScreeningInput, book: &[u8]) -> Answer
     let figures = figures_of(
         input.by,
         input.concentration,
-        numbers.divisor,
-        numbers.rows(),
+        &numbers,
         &list[..count],
         &at_zero[..count],
     );

@@ -8,16 +8,16 @@ use mathlib.Core.Path.{◌≡◌, refl, ap, ap₂, sym, ◌∙◌}
 use mathlib.Core.List.{List}
 use lib.ListN.{length, drop, length-drop}
 use borrow.Author.Tests.{le-ltb}
-use Rattle.book.specs.Fields.{coefficient}
+use Rattle.coefficients.specs.Sets.{set_in_use}
 use Rattle.book.specs.Rates.{max_rate}
-use Rattle.screening.specs.Job.{rate, rate_length, job_length, concentration_of, book_of}
-use Rattle.screening.specs.JobGrounds.{checked_job}
-use Rattle.screening.specs.Screening.{criterion_of, figures_at, screened_at, answer_for}
+use Rattle.screening.specs.Job.{rate, rate_length, job_length, book_of}
+use Rattle.screening.specs.JobGrounds.{checked_with}
+use Rattle.screening.specs.Screening.{figures_at, answer_for}
 use Rattle.verdict.specs.declared.verdict.Verdict.{Verdict}
 use Rattle.screening.proofs.JobChecks.{FieldsPass, job_passes}
 use Rattle.screening.proofs.SameBytes.{judged_same, checked_same}
-use Rattle.screening.proofs.Answers.{judged}
-use Rattle.ventilation.specs.Lowest.{first_rate, says_below, verdict_on, lowest_for, lowest_of}
+use Rattle.screening.proofs.Answers.{screened_of, judged}
+use Rattle.ventilation.specs.Lowest.{first_rate, says_below, verdict_on, lowest_for, lowest_with}
 use Rattle.ventilation.specs.JobWithRate.{with_rate, Judged}
 
 two_bytes : (x : ℕ) → x % 2 ^ 8 + 2 ^ 8 * (x / 2 ^ 8 % 2 ^ 8) ≡ x % 2 ^ 16
@@ -40,20 +40,20 @@ rest_kept w job = refl
 
 -- A job that passes its checks is answered with the verdict on it at its own rate.
 judged_at_own_rate :
-    (job : List ℕ) (verdict : Verdict) → checked_job job (book_of job) ≡ (Ok tt) →
-    verdict_on job (rate job) ≡ verdict → Judged job verdict
+    (job second : List ℕ) (verdict : Verdict) → checked_with job (book_of job) second ≡ Ok tt →
+    verdict_on job second (rate job) ≡ verdict → Judged job second verdict
 unfolding figures_at
-judged_at_own_rate job verdict passed given =
+judged_at_own_rate job second verdict passed given =
     record {
-      answer =
-          screened_at (criterion_of job) (book_of job) (coefficient (book_of job)) (rate job) (concentration_of job);
-      accepted = ap (λ c. answer_for c job (book_of job)) passed;
+      answer = screened_of job second;
+      accepted = ap (λ c. answer_for c job second) passed;
       given = given;
     }
 
-module _ (job : List ℕ) (w : ℕ) (passed : checked_job job (book_of job) ≡ Ok tt) (within : w ≤ max_rate) where
+module _ (job second : List ℕ) (w : ℕ) (passed : checked_with job (book_of job) second ≡ Ok tt)
+    (within : w ≤ max_rate) where
   fields : FieldsPass job
-  fields = (job_passes job (book_of job) passed).fields
+  fields = (job_passes job (book_of job) second passed).fields
 
   rate_is : rate (with_rate w job) ≡ w
   rate_is = rate_written w job (omega arith)
@@ -61,25 +61,30 @@ module _ (job : List ℕ) (w : ℕ) (passed : checked_job job (book_of job) ≡ 
   long_enough : job_length ≤ length (with_rate w job)
   long_enough = omega (arith, length-drop rate_length job, fields.long)
 
-  pub passes_at_rate : checked_job (with_rate w job) (book_of (with_rate w job)) ≡ Ok tt
+  pub passes_at_rate : checked_with (with_rate w job) (book_of (with_rate w job)) second ≡ Ok tt
   passes_at_rate =
       checked_same (with_rate w job) job (rest_kept w job)
       (le-ltb (length (with_rate w job)) job_length long_enough ∙ sym (le-ltb (length job) job_length fields.long))
       (le-ltb max_rate (rate (with_rate w job)) (rw rate_is within) ∙ sym (le-ltb max_rate (rate job) fields.rate))
+      second
       ∙ passed
 
-  pub at_rate : Judged (with_rate w job) (verdict_on job w)
+  pub at_rate : Judged (with_rate w job) second (verdict_on job second w)
   at_rate =
       judged_at_own_rate
       (with_rate w job)
-      (verdict_on job w)
+      second
+      (verdict_on job second w)
       passes_at_rate
-      (ap (verdict_on (with_rate w job)) rate_is
-      ∙ judged_same (with_rate w job) job (rest_kept w job) (λ by book. judged by book w))
+      (ap (verdict_on (with_rate w job) second) rate_is
+      ∙ judged_same (with_rate w job) job (rest_kept w job) (λ by book. judged by book second w))
 
-  pub own_rate_ignored : lowest_of (with_rate w job) ≡ lowest_of job
+  pub own_rate_ignored : lowest_with (with_rate w job) second ≡ lowest_with job second
   own_rate_ignored =
-      ap (λ c. lowest_for c (with_rate w job)) passes_at_rate
+      ap (λ c. lowest_for c (with_rate w job) second) passes_at_rate
       ∙ judged_same (with_rate w job) job (rest_kept w job)
-      (λ by book C. Ok (first_rate (λ v. says_below (judged by book v C)) 0 (suc max_rate)))
-      ∙ ap (λ c. lowest_for c job) (sym passed)
+      (λ by book C. Ok (record {
+        rate = first_rate (λ v. says_below (judged by book second v C)) 0 (suc max_rate);
+        set = set_in_use second;
+      }))
+      ∙ ap (λ c. lowest_for c job second) (sym passed)

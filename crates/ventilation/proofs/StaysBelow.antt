@@ -1,6 +1,5 @@
 -- What is enough stays enough: at a higher rate no verdict is worse (demand 3), so once the verdict is 'below' it is at
 -- every higher rate.
-use Rattle.std.specs.Prelude.{Option, Ok}
 use Prim.Native.Nat.{ℕ, suc, ◌≤◌, ◌<◌}
 use native.Mathlib.Nat.{le_refl, le_trans}
 use Rattle.std.proofs.Common.{leb}
@@ -8,26 +7,22 @@ use native.Mathlib.Omega.{arith}
 use mathlib.Core.Path.{◌≡◌, refl, ap, sym, ◌∙◌}
 use mathlib.Core.Bool.{true}
 use mathlib.Core.List.{List}
-use Rattle.book.specs.Fields.{coefficient}
+use Rattle.coefficients.specs.Sets.{coefficient_in_use}
+use Rattle.coefficients.specs.Rows.{rows_in_use}
 use Rattle.book.specs.BookGrounds.{Accepted}
-use Rattle.book.specs.Holding.{HoldingNumbers}
 use Rattle.book.specs.Rates.{max_rate}
 use Rattle.numbers.specs.Bisection.{Between, Rises}
 use Rattle.numbers.proofs.Bisection.{found}
-use Rattle.screening.specs.Job.{book_of}
-use Rattle.screening.specs.JobGrounds.{checked_job}
 use Rattle.verdict.specs.Verdict.{verdict_at, verdict_order}
 use Rattle.screening.specs.Screening.{assessment_at}
-use Rattle.screening.specs.Admission.{input_of}
 use Rattle.screening.specs.Screenable.{Screenable}
 use Rattle.verdict.specs.HeldNumbers.{number_in}
-use Rattle.screening.specs.declared.admission.ScreeningInput.{ScreeningInput}
 use Rattle.verdict.specs.declared.verdict.Criterion.{Criterion}
 use Rattle.verdict.specs.declared.verdict.Verdict.{Verdict}
 use Rattle.verdict.specs.declared.verdict.Verdict.TheVariants.{Below, Close, Above}
 use Rattle.screening.proofs.Promised.{demand_3}
-use Rattle.screening.proofs.HeldNumbers.{in_array, by_rows}
-use Rattle.ventilation.specs.Lowest.{says_below, first_rate, lowest_for, lowest_of}
+use Rattle.screening.proofs.HeldNumbers.{by_rows}
+use Rattle.ventilation.specs.Lowest.{says_below}
 use Rattle.ventilation.specs.Private.BelowAt.{below_at}
 
 best : (verdict : Verdict) → says_below verdict ≡ true → verdict_order verdict ≤ 1
@@ -53,21 +48,9 @@ below_rises by book numbers C accepted =
 
 -- What is found with the array's numbers is found with the book's.
 pub by_book :
-    {by : Criterion} {v C r : ℕ} {book : List ℕ} {n : ℕ} {array : List (List ℕ)} {W : ℕ} → Screenable by v C book →
-    HoldingNumbers book n array W → Between (below_at by book (number_in array) C) (suc max_rate) r r →
-    (k : ℕ) → k < suc max_rate → below_at by book (coefficient book) C k ≡ leb r k
-by_book {by} {v} {C} {r} {book} {array = array} asked held span k less =
+    {by : Criterion} {v C r : ℕ} {book : List ℕ} (second : List ℕ) {array : List (List ℕ)} → Screenable by v C book →
+    array ≡ rows_in_use book second → Between (below_at by book (number_in array) C) (suc max_rate) r r →
+    (k : ℕ) → k < suc max_rate → below_at by book (coefficient_in_use book second) C k ≡ leb r k
+by_book {by} {v} {C} {r} {book} second {array = array} asked read span k less =
     let rises = below_rises by book (number_in array) C asked.accepted in
-    ap says_below (sym (by_rows (in_array asked.accepted held) by C k)) ∙ found span rises (le_refl r) k less
-
--- The search on what the checks have left of a job is the search on the job.
-pub searched_is :
-    (job : List ℕ) {input : ScreeningInput} {answer : Option ℕ} → checked_job job (book_of job) ≡ Ok tt →
-    input ≡ input_of job →
-    answer ≡ first_rate (below_at input.by (book_of job) (coefficient (book_of job)) input.concentration) 0
-    (suc max_rate) → Ok answer ≡ lowest_of job
-searched_is job passed is answer =
-    ap Ok answer
-    ∙ ap
-    (λ r. Ok (first_rate (below_at r.by (book_of job) (coefficient (book_of job)) r.concentration) 0 (suc max_rate))) is
-    ∙ ap (λ found. lowest_for found job) (sym passed)
+    ap says_below (sym (by_rows book second read by C k)) ∙ found span rises (le_refl r) k less

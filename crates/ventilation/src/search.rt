@@ -1,6 +1,6 @@
 // The search for the lowest rate.
 ghost use Rattle.std.specs.Prelude.{◌≡◌, ◌≤◌, suc};
-ghost use Rattle.book.specs.Fields.{coefficient};
+ghost use Rattle.coefficients.specs.Sets.{coefficient_in_use};
 ghost use Rattle.book.specs.Rates.{max_rate};
 ghost use Rattle.numbers.specs.Bisection.{Between};
 ghost use Rattle.screening.specs.Screenable.{Judgeable, Screenable};
@@ -8,7 +8,8 @@ ghost use Rattle.verdict.specs.HeldNumbers.{number_in};
 ghost use Rattle.ventilation.specs.Lowest.{first_rate};
 ghost use Rattle.ventilation.specs.Private.BelowAt.{below_at};
 
-use book::{AcceptedChain, Coefficients, MAX_MEMBERS, MAX_RATE, Rate, read_chain, read_numbers};
+use book::{AcceptedChain, Coefficients, MAX_MEMBERS, MAX_RATE, Rate, read_chain};
+use coefficients::numbers_in_use;
 use numbers::first_where;
 use screening::{Criterion, ScreeningInput, Verdict, verdict_at};
 
@@ -34,16 +35,16 @@ fn failing_rates(
     first_where(MAX_RATE + 1, is_enough)
 }
 
-// The lowest rate for a room whose book is checked. The book is read once, and its arrays are lent.
-pub(crate) fn lowest_for(input: ScreeningInput, book: &[u8]) -> Option<u32>
+// The lowest rate for a room whose book and second set are checked. Both are read once, and their arrays are lent.
+pub(crate) fn lowest_for(input: ScreeningInput, book: &[u8], second: &[u8]) -> Option<u32>
     requires { Screenable input.by input.rate input.concentration book.now }
-    ensures { result ≡ first_rate (below_at input.by book.now (coefficient book.now) input.concentration) 0
-        (suc max_rate) }
+    ensures { result ≡ first_rate (below_at input.by book.now (coefficient_in_use book.now second.now)
+        input.concentration) 0 (suc max_rate) }
 {
     let held = read_chain(book);
-    let numbers = read_numbers(book);
     let chain = AcceptedChain { chain: &held };
-    let failing = failing_rates(input.by, input.concentration, chain, &numbers.coefficients);
+    let numbers = numbers_in_use(chain, second);
+    let failing = failing_rates(input.by, input.concentration, chain, &numbers.rows);
     if failing <= MAX_RATE {
         Some(failing)
     } else {

@@ -4,8 +4,8 @@ ghost use Rattle.book.specs.Fields.{members, feed_count, first_feed};
 ghost use Rattle.numbers.specs.Tests.{some_below};
 ghost use Rattle.book.specs.BookGrounds.{feed_wrong, feed_out_of_range};
 
-use super::super::counts::{feed_count, member_count};
 use super::super::fields::{first_feed, from_of, next_of, share_of};
+use super::super::header::{feed_count, member_count};
 use super::super::limits::WHOLE_SHARE;
 use numbers::some_below;
 

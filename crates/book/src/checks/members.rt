@@ -1,12 +1,11 @@
 // Ground 13: the numbers of each member.
-ghost use Rattle.std.specs.Prelude.{◌≡◌, ltb};
-ghost use Rattle.book.specs.Limits.{max_coefficient};
-ghost use Rattle.book.specs.Fields.{coefficient_count, coefficient};
-ghost use Rattle.numbers.specs.Tests.{some_below};
-ghost use Rattle.book.specs.BookGrounds.{longest, member_wrong, member_out_of_range};
+ghost use Rattle.std.specs.Prelude.{◌≡◌};
+ghost use Rattle.book.specs.Fields.{first_coefficient};
+ghost use Rattle.book.specs.BookGrounds.{longest, coefficient_too_high, member_wrong, member_out_of_range};
 
-use super::super::counts::member_count;
-use super::super::fields::{coefficient_of, half_life};
+use super::super::coefficients::coefficient_at;
+use super::super::fields::{first_coefficient, half_life};
+use super::super::header::member_count;
 use super::super::layout::COEFFICIENTS;
 use super::super::limits::{MAX_COEFFICIENT, MAX_HALF_LIFE, MAX_PARENT_HALF_LIFE};
 use numbers::some_below;
@@ -22,15 +21,14 @@ fn longest_half_life(i: u16) -> u64
     }
 }
 
-// One of member i's five numbers is too high.
+// One of member i's five numbers is too high. Where they begin is worked out for each: the machine then adds nothing.
 fn coefficient_too_high(book: &[u8], i: u16) -> bool
-    ensures { result ≡ some_below coefficient_count (λ which. ltb max_coefficient (coefficient book.now i which)) }
+    ensures { result ≡ coefficient_too_high book.now (first_coefficient i) }
 {
     // There are five, so that nothing is cut.
-    some_below(
-        COEFFICIENTS as u16,
-        |which| MAX_COEFFICIENT < coefficient_of(book, i, which),
-    )
+    some_below(COEFFICIENTS as u16, |which| {
+        MAX_COEFFICIENT < coefficient_at(book, first_coefficient(i), which)
+    })
 }
 
 // A number of member i is out of range.

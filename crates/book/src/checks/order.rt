@@ -4,9 +4,9 @@ ghost use Rattle.book.specs.Fields.{members, first_feed, from, feeds_of};
 ghost use Rattle.numbers.specs.Tests.{some_below, some_in};
 ghost use Rattle.book.specs.BookGrounds.{feeds_misplaced, feed_not_from_lower};
 
-use super::super::counts::member_count;
 use super::super::feeds::feeds_of;
 use super::super::fields::{first_feed, from_of};
+use super::super::header::member_count;
 use numbers::some_below;
 
 // A member after the parent has no feed.

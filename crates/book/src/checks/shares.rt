@@ -5,8 +5,8 @@ ghost use Rattle.book.specs.Fields.{members};
 ghost use Rattle.book.specs.BookGrounds.{shares_out_too_high};
 ghost use Rattle.book.specs.Private.SharesSummed.{SumsFit, SharesSummed};
 
-use super::super::counts::{feed_count, member_count};
 use super::super::fields::{from_of, share_of};
+use super::super::header::{feed_count, member_count};
 use super::super::limits::{MAX_MEMBERS, WHOLE_SHARE};
 use numbers::some_below;
 

@@ -2,7 +2,7 @@
 ghost use Rattle.std.specs.Prelude.{◌≡◌};
 ghost use Rattle.book.specs.BookGrounds.{book_too_short, count_out_of_range, book_length_wrong};
 
-use super::super::counts::{feed_count, member_count};
+use super::super::header::{feed_count, member_count};
 use super::super::layout::{FEED_LENGTH, HEADER_LENGTH, MEMBER_LENGTH};
 use super::super::limits::{MAX_FEEDS, MAX_MEMBERS};
 

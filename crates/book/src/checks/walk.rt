@@ -5,8 +5,8 @@ ghost use Rattle.book.specs.Fields.{members, feeds_of};
 ghost use Rattle.book.specs.BookGrounds.{walk, feed_not_once};
 ghost use Rattle.book.specs.Private.Counted.{Counted};
 
-use super::super::counts::{feed_count, member_count};
 use super::super::feeds::feeds_of;
+use super::super::header::{feed_count, member_count};
 use numbers::some_below;
 
 // Counts each feed of member i once more; a third time is no different from a second. A feed is a byte, so every one

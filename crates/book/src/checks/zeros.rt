@@ -4,13 +4,12 @@ ghost use Rattle.book.specs.Fields.{members, feed_count, member_zeros, member_ze
 ghost use Rattle.numbers.specs.Tests.{some_below};
 ghost use Rattle.book.specs.BookGrounds.{not_zero, divisor_or_zeros_wrong};
 
-use super::super::counts::{feed_count, member_count};
 use super::super::fields::{feed_at, member_at};
+use super::super::header::{feed_count, member_count, working_level_divisor};
 use super::super::layout::{
-    DIVISOR, FEED_ZERO_COUNT, FEED_ZEROS, HEADER_ZERO_COUNT, HEADER_ZEROS, MEMBER_ZERO_COUNT,
-    MEMBER_ZEROS,
+    FEED_ZERO_COUNT, FEED_ZEROS, HEADER_ZERO_COUNT, HEADER_ZEROS, MEMBER_ZERO_COUNT, MEMBER_ZEROS,
 };
-use numbers::{some_below, u8_at, u16_at};
+use numbers::{some_below, u8_at};
 
 // One of the `count` bytes from `start` on isn't zero.
 fn some_not_zero(book: &[u8], start: u32, count: u16) -> bool
@@ -47,7 +46,7 @@ fn feeds_not_zero(book: &[u8]) -> bool
 pub(crate) fn divisor_or_zeros_wrong(book: &[u8]) -> bool
     ensures { result ≡ divisor_or_zeros_wrong book.now }
 {
-    (u16_at(book, DIVISOR) == 0)
+    (working_level_divisor(book) == 0)
         | some_not_zero(book, HEADER_ZEROS, HEADER_ZERO_COUNT)
         | members_not_zero(book)
         | feeds_not_zero(book)

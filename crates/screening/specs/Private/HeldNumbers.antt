@@ -3,6 +3,7 @@
 use Rattle.std.specs.Prelude.{ℕ, ◌≤◌, ◌<◌, ◌≡◌, List, length, Option}
 use Rattle.verdict.specs.HeldNumbers.{assessment_in, alpha_in, judged_on, Judgeable}
 use Rattle.verdict.specs.WorkingLevels.{working_levels}
+use Rattle.coefficients.specs.declared.set.CoefficientSet.{CoefficientSet}
 use Rattle.screening.specs.declared.job.Figures.{Figures}
 use Rattle.verdict.specs.declared.verdict.Criterion.{Criterion}
 use Rattle.verdict.specs.declared.verdict.Judgement.{Judgement}
@@ -10,13 +11,13 @@ use Rattle.verdict.specs.declared.working.WorkingLevels.{WorkingLevels}
 
 -- The figures that a book's numbers and divisor and two arrays of factors give, at the rate and at rate 0, and what is
 -- asked of them.
-abbrev pub figures_by : ℕ → Judgement → Option WorkingLevels → Figures
-figures_by C judged working =
-    record { concentration = C; verdict = judged.verdict; level = judged.level; working = working }
+abbrev pub figures_by : CoefficientSet → ℕ → Judgement → Option WorkingLevels → Figures
+figures_by set C judged working =
+    record { set = set; concentration = C; verdict = judged.verdict; level = judged.level; working = working }
 
-abbrev pub figures_in : Criterion → ℕ → ℕ → List (List ℕ) → List ℕ → List ℕ → Figures
-figures_in by C W coefficients factors at_zero =
-    figures_by C
+abbrev pub figures_in : CoefficientSet → Criterion → ℕ → ℕ → List (List ℕ) → List ℕ → List ℕ → Figures
+figures_in set by C W coefficients factors at_zero =
+    figures_by set C
     (judged_on (assessment_in by coefficients factors) C)
     (working_levels (alpha_in coefficients factors) (alpha_in coefficients at_zero) C W)
 
