@@ -1,8 +1,8 @@
-"""Documents 01 and 02 (R-1 to R-6) in exact whole numbers and fractions: the check from outside.
+"""Documents 01 and 02 (R-1 to R-7) in exact whole numbers and fractions: the check from outside.
 
 It follows document 01's order and words, with exposure in quarter hours as R-1 of document 02 has it,
-with R-2's shares of the years for dose, R-3's tables, R-5's rooms minute by minute and R-6's lowest rate
-(R-4 changed no answer), and has nothing in common with the proved program.
+with R-2's shares of the years for dose, R-3's tables, R-5's rooms minute by minute, R-6's lowest rate and
+R-7's second set of coefficients (R-4 changed no answer), and has nothing in common with the proved program.
 A job on standard input gives the text of `screen` on standard output, with --fan that of `fan`;
 with --check it also asserts, on that job, what demand 3 promises, and with both what R-6 does.
 
@@ -431,21 +431,52 @@ def opening_every(periods, every, book):
     return text
 
 
+# ---- The partner's coefficients (R-7) ------------------------------------------------------------
+
+NOT_LENT = b""
+
+
+def set_in_use(second):
+    """Its name: 1 for the book's set, 2 for the second. No bytes means not lent."""
+    return 1 if second == NOT_LENT else 2
+
+
+def read_second(data, n):
+    """n groups of five numbers, in the member's order and widths: check 23."""
+    refuse_if(len(data) != 20 * n, 23)
+    groups = [struct.unpack_from("<5I", data, 20 * i) for i in range(n)]
+    refuse_if(any(max(group) > MOST for group in groups), 23)
+    return groups
+
+
+def in_use(book, second):
+    """The book with the numbers in use. Half-lives, feeds and W are always its own."""
+    if set_in_use(second) == 1:
+        return book
+    groups = read_second(second, book.n)
+    return book._replace(members=[Member(member.T, *group) for member, group in zip(book.members, groups)])
+
+
 # ---- The program `screen` -----------------------------------------------------------------------
 
 
-def read_all(job_bytes):
-    """Job, C and book: checks 1 to 18."""
+def read_all(job_bytes, second=NOT_LENT):
+    """Job, C and the book with the numbers in use: checks 1 to 18, then 23."""
     job, C = read_job(job_bytes)
-    return job, C, read_book(job_bytes[48:])
+    return job, C, in_use(read_book(job_bytes[48:]), second)
 
 
-def answer(job_bytes):
-    """The text that `screen` writes."""
+def told(tell, job_bytes, second):
+    """What is told of a job that is accepted with this second set, or the line of the refusal."""
     try:
-        job, C, book = read_all(job_bytes)
+        job, C, book = read_all(job_bytes, second)
     except Refused as refusal:
         return f"refused {refusal.number}\n"
+    return tell(job, book, C)
+
+
+def report(job, book, C):
+    """The lines of an accepted job; the book has the numbers in use."""
     fm = Fm(job.v, book)
     working = micro_working_levels(C, fm, book.W)
     lines = [f"factor {i} {f}" for i, f in enumerate(reported_factors(job.v, book))]
@@ -455,6 +486,11 @@ def answer(job_bytes):
     lines.append(f"equilibrium {'none' if fm is None else fm}")
     lines.append(f"working {'none' if working is None else working}")
     return "".join(line + "\n" for line in lines)
+
+
+def answer(job_bytes, second=NOT_LENT):
+    """The text that `screen` writes, which lends none."""
+    return told(report, job_bytes, second)
 
 
 # ---- How much fan is enough (R-6), and the program `fan` -----------------------------------------
@@ -500,14 +536,24 @@ def lowest_rate(job, book, C):
     return first_below_by_halves(RATES[FEW:], job, book, C) if found is None else found
 
 
-def fan_answer(job_bytes):
-    """The text that `fan` writes. The job is checked as a whole job is, its own rate too: checks 1 to 18."""
-    try:
-        job, C, book = read_all(job_bytes)
-    except Refused as refusal:
-        return f"refused {refusal.number}\n"
+def rate_line(job, book, C):
     rate = lowest_rate(job, book, C)
     return f"rate {'none' if rate is None else rate}\n"
+
+
+def fan_answer(job_bytes, second=NOT_LENT):
+    """The text that `fan` writes, which lends none. The job is checked as a whole job is, its own rate too."""
+    return told(rate_line, job_bytes, second)
+
+
+# ---- The program `partner` (R-7) -----------------------------------------------------------------
+
+
+def partner_answer(second, job_bytes):
+    """The text that `partner` writes: the set in use, the report and the lowest rate with it. A refusal names no set."""
+    def both(job, book, C):
+        return f"set {set_in_use(second)}\n" + report(job, book, C) + rate_line(job, book, C)
+    return told(both, job_bytes, second)
 
 
 # ---- Demand 3, asserted on one job --------------------------------------------------------------
@@ -544,10 +590,10 @@ def check_level(job, book):
     assert level == MOST or verdict(job, book, level + 1) != "below"
 
 
-def check(job_bytes):
-    """Assert demand 3; a refused job promises nothing beyond its number."""
+def check(job_bytes, second=NOT_LENT):
+    """Assert demand 3, with the numbers in use; a refused job promises nothing beyond its number."""
     try:
-        job, C, book = read_all(job_bytes)
+        job, C, book = read_all(job_bytes, second)
     except Refused:
         return
     check_factors(job.v, book)
@@ -590,19 +636,20 @@ def some_rates(count):
     return sorted({place * (count - 1) // 12 for place in range(13)} | {max(count - 2, 0)}) if count > 0 else []
 
 
-def check_lowest(job_bytes, text):
+def check_lowest(job_bytes, text, second=NOT_LENT):
     """Assert R-6 of a job and of what `fan` has printed for it. Run at the answer the job prints 'below'; every lower rate gives
-    another verdict, at 'none' every rate up to 100,000; and the job's own rate alters nothing. A refusal is that of `screen`."""
+    another verdict, at 'none' every rate up to 100,000; and the job's own rate alters nothing. A refusal is that of `screen`.
+    With a second set it is the same, with its numbers."""
     if text.startswith("refused"):
-        assert text == answer(job_bytes)
+        assert text == answer(job_bytes, second)
         return
     rate = None if text == "rate none\n" else int(text.split()[1])
     assert rate is None or 0 <= rate <= 100_000 and text == f"rate {rate}\n"
-    assert rate is None or "\nverdict below\n" in answer(with_rate(rate, job_bytes))
+    assert rate is None or "\nverdict below\n" in answer(with_rate(rate, job_bytes), second)
     for v in some_rates(100_001 if rate is None else rate):
-        assert "\nverdict below\n" not in answer(with_rate(v, job_bytes)), v
+        assert "\nverdict below\n" not in answer(with_rate(v, job_bytes), second), v
     for v in {0, 100_000, rate or 0}:
-        job, C, book = read_all(with_rate(v, job_bytes))
+        job, C, book = read_all(with_rate(v, job_bytes), second)
         assert first_below_by_halves(RATES, job, book, C) == rate, v
 
 

@@ -22,10 +22,9 @@ END = "return rates[after] if after < len(rates) else None"
 FOUND = "    found = first_below(RATES[:FEW], job, book, C)\n"
 RETURN = "    return first_below_by_halves(RATES[FEW:], job, book, C) if found is None else found\n"
 SEARCH = FOUND + RETURN
-READ = '''        job, C, book = read_all(job_bytes)
+READ = '''        job, C, book = read_all(job_bytes, second)
     except Refused as refusal:
         return f"refused {refusal.number}\\n"
-    rate = lowest_rate(job, book, C)
 '''
 PRINT = "    return f\"rate {'none' if rate is None else rate}\\n\"\n"
 BELOW = '    if C * high_sum(job, book) <= B(job):\n        return "below"\n'
@@ -40,7 +39,7 @@ CHECK_6 = "    refuse_if(group_too_large(child) or group_too_large(adult) or Z((
 CHECK_7 = "    refuse_if(not is_reading(value) or not is_reading(uncertainty), 7)\n"
 CHECK_8 = "    return job, concentration(job)\n"
 OF_THE_JOB = CHECK_2 + CHECK_3 + CHECK_4 + CHECK_5 + CHECK_6 + CHECK_7 + CHECK_8
-READ_ALL = "    job, C = read_job(job_bytes)\n    return job, C, read_book(job_bytes[48:])\n"
+READ_ALL = "    job, C = read_job(job_bytes)\n    return job, C, in_use(read_book(job_bytes[48:]), second)\n"
 CHECK_10 = "    refuse_if(not 1 <= n <= 16 or m > 64, 10)\n"
 CHECK_11 = "    refuse_if(len(data) != 8 + 32 * n + 8 * m, 11)\n"
 CHECK_12 = "    refuse_if(W == 0 or any(zeros), 12)\n"
@@ -175,7 +174,7 @@ OWN_MISTAKES = [
     ("'rate 0' without its number", PRINT, "    return f\"rate {'none' if rate is None else rate or ''}\\n\"\n"),
     ("'none' alone", PRINT, "    return 'none\\n' if rate is None else f\"rate {rate}\\n\"\n"),
     ("'rate -1' for none", PRINT, PRINT.replace("'none' if", "-1 if")),
-    ("the report at the answer", PRINT, "    return answer(with_rate(rate or 0, job_bytes))\n"),
+    ("the report at the answer", PRINT, "    return report(job._replace(v=rate or 0), book, C)\n"),
     ("'none' for a refusal", READ, READ.replace('f"refused {refusal.number}\\n"', '"rate none\\n"')),
     ("a refusal without its number", READ, READ.replace(" {refusal.number}", "")),
     # The verdict: 'below' and what it is made of.
