@@ -1,4 +1,4 @@
-"""Bytes of jobs and books, for the tests and the recorded cases. It checks nothing: damage must be possible."""
+"""Bytes of jobs, books and second sets, for the tests and the recorded cases. It checks nothing: damage must be possible."""
 
 import struct
 
@@ -15,10 +15,15 @@ def pack_job(v=0, kind=0, medium=0, unit=2, zero=0, target=0, AF=1_000_000, valu
     return head + struct.pack("<4H", *child) + struct.pack("<4H", *adult)
 
 
+def pack_numbers(inhalation_risk=0, submersion_risk=0, inhalation_dose=0, submersion_dose=0, w=0):
+    """A member's five numbers, which stand in its record; a second set is these alone, member by member."""
+    return struct.pack("<5I", inhalation_risk, submersion_risk, inhalation_dose, submersion_dose, w)
+
+
 def pack_member(T, inhalation_risk=0, submersion_risk=0, inhalation_dose=0, submersion_dose=0, w=0,
                 first=0, zeros=b"\0\0\0"):
-    numbers = (inhalation_risk, submersion_risk, inhalation_dose, submersion_dose, w)
-    return struct.pack("<Q5IB3s", T, *numbers, first, zeros)
+    numbers = pack_numbers(inhalation_risk, submersion_risk, inhalation_dose, submersion_dose, w)
+    return struct.pack("<Q", T) + numbers + struct.pack("<B3s", first, zeros)
 
 
 def pack_feed(share, from_, next_=0, zeros=b"\0\0"):

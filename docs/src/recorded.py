@@ -10,6 +10,8 @@ body is
        the book
     4  the call for periods: how many places the lent list has (u16), how many numbers there are (u16), the numbers (u32
        each), rate and minutes in turn, the book
+    5  a second set and a job: how many bytes the set has (u32), the set, the job, answered as by `partner`. A set of no
+       bytes is not lent. Where fewer bytes follow, the set has these, and the job none
 
 2 and 4 are answered by one line: `filled` or `refused`, how many places were filled or the refusal's number, a colon,
 and what every place of the list holds after the call; each held 7 before it. 3 is answered by `written` or `refused`,
@@ -45,6 +47,15 @@ def one_part(body):
     return (body,)
 
 
+def pack_partner(second, job):
+    return struct.pack("<I", len(second)) + second + job
+
+
+def unpack_partner(body):
+    (length,) = struct.unpack_from("<I", body)
+    return body[4 : 4 + length], body[4 + length :]
+
+
 def pack_factors(rate, book, room):
     return struct.pack("<IH", rate, room) + book
 
@@ -70,7 +81,7 @@ def counted(head):
 # ---- Answers -------------------------------------------------------------------------------------
 
 
-def text_itself(answer, job):
+def text_itself(answer, *parts):
     return answer
 
 
@@ -94,9 +105,15 @@ def line_end(text, at, *parts):
     return text.index("\n", at) + 1
 
 
-def report_end(text, at, job):
+def report_end(text, at, *parts):
     """A report ends with the line of its working levels, a refusal with its own."""
     return line_end(text, at if text.startswith("refused", at) else text.index("\nworking ", at) + 1)
+
+
+def partner_end(text, at, *parts):
+    """After the report comes the line of the lowest rate."""
+    end = report_end(text, at)
+    return end if text.startswith("refused", at) else line_end(text, end)
 
 
 def buffer_end(text, at, numbers, book, room):
@@ -110,6 +127,7 @@ LOWEST = Kind(1, "fan_answer", bytes, one_part, text_itself, line_end)
 FACTORS = Kind(2, "factor_call", pack_factors, unpack_factors, places_text, line_end)
 TABLE = Kind(3, "table_call", *counted("<IH"), buffer_text, buffer_end)
 OPENING = Kind(4, "opening_call", *counted("<HH"), places_text, line_end)
+PARTNER = Kind(5, "partner_answer", pack_partner, unpack_partner, text_itself, partner_end)
 
 table_call = TABLE.unpack  # the Python package's tests take recorded tables apart by this name
 
@@ -144,7 +162,7 @@ def read_records(data):
 
 def read_cases(wanted, stdin=CRATE / "stdin", stdout=CRATE / "stdout"):
     """The body and the answer of each case of one kind. Both files are read to their ends: no case lacks an answer."""
-    kinds = {kind.number: kind for kind in (JOB, LOWEST, FACTORS, TABLE, OPENING)}
+    kinds = {kind.number: kind for kind in (JOB, LOWEST, FACTORS, TABLE, OPENING, PARTNER)}
     text, at, cases = pathlib.Path(stdout).read_text(encoding="ascii"), 0, []
     for number, body in read_records(pathlib.Path(stdin).read_bytes()):
         kind = kinds[number]
