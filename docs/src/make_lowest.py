@@ -24,12 +24,13 @@ MOST_TARGET = 10**9
 
 
 class Aim:
-    """A case, ready to have its target chosen: Low and High at any rate, and what one step of the target is worth in B."""
+    """A case, ready to have its target chosen: Low and High at any rate, and what one step of the target is worth in B, with the
+    book's numbers or a second set's."""
 
-    def __init__(self, case):
+    def __init__(self, case, second=ref.NOT_LENT):
         case.job["target"], case.job["v"] = 1, 0
         self.case = case
-        self.job, self.C, self.book = ref.read_all(case.data())
+        self.job, self.C, self.book = ref.read_all(case.data(), second)
         self.one = ref.B(self.job)
 
     def low(self, v):
