@@ -1,4 +1,4 @@
-"""docs/FORMAT.md against the packer and the reference: its dump, report and offsets, its concentrations, its entries of a table.
+"""docs/FORMAT.md against the packer and the reference: its dumps, texts and offsets, its concentrations, its entries of a table.
 
     test_format.py
 """
@@ -10,12 +10,13 @@ import struct
 from fractions import Fraction
 
 import reference as ref
-from packing import bits, pack_book, pack_feed, pack_job, pack_member
+from packing import bits, pack_book, pack_feed, pack_job, pack_member, pack_numbers
 from plain_help import answer_help
 from tally import run_tests, say_passed
 
 PAGE = pathlib.Path(__file__).resolve().parents[1].joinpath("FORMAT.md").read_text(encoding="utf-8")
 JOB = pack_job(unit=0, target=1_610, value=bits(1.0)) + pack_book([pack_member(330_350_400_000_000, inhalation_risk=1_000)], [])
+SECOND = pack_numbers(inhalation_risk=2_000)
 
 
 def dump_lines(data):
@@ -43,18 +44,21 @@ def tables():
     return made
 
 
-def test_dump():
+def test_dumps():
     assert len(JOB) == 48 + 40
-    assert indented(dump_lines(JOB)) in PAGE, indented(dump_lines(JOB))
+    for data in (JOB, SECOND):
+        assert indented(dump_lines(data)) in PAGE, indented(dump_lines(data))
 
 
-def test_report():
-    assert indented(ref.answer(JOB).splitlines()) in PAGE
+def test_texts():
+    for text in (ref.answer(JOB), ref.partner_answer(SECOND, JOB)):
+        assert "\n\n" + indented(text.splitlines()) + "\n" in PAGE, text
 
 
 def test_offsets():
     """The fields of each table follow one another, and have the sizes that the packer gives them."""
-    packed = [("<IBBBBIIQQ8H", pack_job()), ("<BBH4s", pack_book([], [])), ("<Q5IB3s", pack_member(1)), ("<IBB2s", pack_feed(1, 0))]
+    packed = [("<IBBBBIIQQ8H", pack_job()), ("<BBH4s", pack_book([], [])), ("<Q5IB3s", pack_member(1)), ("<IBB2s", pack_feed(1, 0)),
+              ("<5I", pack_numbers())]
     assert len(tables()) == len(packed)
     for rows, (form, data) in zip(tables(), packed):
         assert [offset for offset, _ in rows] == [sum(size for _, size in rows[:i]) for i in range(len(rows))]
