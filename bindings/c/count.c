@@ -1,6 +1,6 @@
 /* One call on the largest book, 16 members and 64 feeds, so that a tool that counts instructions has something to count.
  *
- *     count factors | report
+ *     count factors | report | figures | second
  *
  * Answers with status 0 where the call was accepted. */
 #include "jelmorand.h"
@@ -15,6 +15,7 @@
 #define BOOK_LENGTH (HEADER + MEMBERS * MEMBER + FEEDS * FEED)
 
 static uint8_t job[JELMORAND_JOB_LENGTH + BOOK_LENGTH];
+static uint8_t second[MEMBERS * JELMORAND_COEFFICIENTS_LENGTH];
 
 static void put(uint8_t *at, uint64_t number, int bytes)
 {
@@ -67,14 +68,28 @@ static void make_job(void)
     make_book(job + JELMORAND_JOB_LENGTH);
 }
 
+/* A second set of numbers that are not the book's. */
+static void make_second(void)
+{
+    for (size_t i = 0; i < sizeof second; i += 4)
+        put(second + i, 2000 + i, 4);
+}
+
 int main(int count, char **words)
 {
     static uint64_t factors[JELMORAND_MAX_MEMBERS];
     static uint8_t text[JELMORAND_REPORT_ROOM];
+    struct jelmorand_figures figures;
+    uint32_t set;
     make_job();
+    make_second();
     if (count == 2 && strcmp(words[1], "factors") == 0)
         return jelmorand_factors(18, job + JELMORAND_JOB_LENGTH, BOOK_LENGTH, factors, MEMBERS) != MEMBERS;
     if (count == 2 && strcmp(words[1], "report") == 0)
         return jelmorand_report(job, sizeof job, text, sizeof text) <= 0 || text[0] != 'f';
+    if (count == 2 && strcmp(words[1], "figures") == 0)
+        return jelmorand_screen(job, sizeof job, &figures, factors, MEMBERS) != MEMBERS;
+    if (count == 2 && strcmp(words[1], "second") == 0)
+        return jelmorand_screen_with(job, sizeof job, second, sizeof second, &set, &figures, factors, MEMBERS) != MEMBERS;
     return 2;
 }

@@ -3,16 +3,16 @@
  * Link with libjelmorand.a or libjelmorand.so (x86-64 Linux). All calls but jelmorand_refusal_sentence are proved to answer what is
  * said here for every input, on the condition that a C caller must keep and that nothing checks: each pointer is aligned for its
  * type, and has at least as many elements behind it as the length after it says, so it may be null where that length is 0;
- * `figures`, which has no length, is never null; and what `out`, `figures` and `factors` point to overlaps nothing else that is
- * passed. A length is at most PTRDIFF_MAX bytes. None of them allocates, blocks or keeps a pointer, and all may be called from
- * several threads at once. Of the stack a call for factors takes under 2 KB, the others under 3 KB, as measured.
+ * `figures` and `set`, which have no length, are never null; and what `out`, `figures`, `factors` and `set` point to overlaps
+ * nothing else that is passed. A length is at most PTRDIFF_MAX bytes. None of them allocates, blocks or keeps a pointer, and all may
+ * be called from several threads at once. Of the stack a call for factors takes under 2 KB, the others under 3 KB, as measured.
  *
  * Every call answers an int64_t: the answer itself where it is not negative, and minus the number of the refusal otherwise. So a
  * refusal is met by  if (answer < 0),  and this one by  if (answer == -JELMORAND_BOOK_TOO_SHORT).
  *
- * The bytes of a job and of a chain book are described, with an example, in docs/FORMAT.md. A job's exposure is in quarter hours
- * per day, 0 to 96. It used to be in whole hours, 0 to 24: a job written so would be taken for a quarter of its exposure, so it
- * must not be passed. For dose a group counts by its share of both groups' years, in whole hundredths.
+ * The bytes of a job, of a chain book and of a second set of coefficients are described, with an example, in docs/FORMAT.md. A job's
+ * exposure is in quarter hours per day, 0 to 96. It used to be in whole hours, 0 to 24: a job written so would be taken for a quarter
+ * of its exposure, so it must not be passed. For dose a group counts by its share of both groups' years, in whole hundredths.
  */
 #ifndef JELMORAND_H
 #define JELMORAND_H
@@ -53,11 +53,14 @@ int64_t jelmorand_version(void);
 /* The most minutes that a period has. */
 #define JELMORAND_MAX_MINUTES 1440
 
-/* What jelmorand_lowest_rate answers where no rate gives 'below': one more than the highest rate, so no rate itself. */
+/* What a call for the lowest rate answers where no rate gives 'below': one more than the highest rate, so no rate itself. */
 #define JELMORAND_NO_RATE 100001
 
 /* The bytes of a job before its chain book. */
 #define JELMORAND_JOB_LENGTH 48
+
+/* The bytes of one member in a second set of coefficients: its five numbers, 4 bytes each. */
+#define JELMORAND_COEFFICIENTS_LENGTH 20
 
 /* The values of a job's bytes 4 to 6. */
 enum jelmorand_kind { JELMORAND_RISK = 0, JELMORAND_DOSE = 1 };
@@ -182,6 +185,30 @@ enum jelmorand_verdict { JELMORAND_BELOW = 1, JELMORAND_CLOSE = 2, JELMORAND_ABO
 int64_t jelmorand_screen(const uint8_t *job, size_t job_len, struct jelmorand_figures *figures, uint64_t *factors,
                          size_t factors_len);
 
+/* Whose coefficients are in use: the book's own, or the second set that was lent beside it. 0 is neither, so that a number which
+ * nobody filled names no set. */
+enum jelmorand_coefficient_set { JELMORAND_BOOK_SET = 1, JELMORAND_SECOND_SET = 2 };
+
+/* What jelmorand_screen says, with a second set of coefficients in use where one is lent.
+ *
+ * job: the bytes that jelmorand_report takes, 48 and the chain book. The book's own coefficients are checked in either case.
+ * second: the bytes of the second set: for each member of the book, in the book's order, its inhalation risk, submersion risk,
+ * inhalation dose, submersion dose and alpha energy weight, each as it stands there: JELMORAND_COEFFICIENTS_LENGTH bytes a member, no
+ * more and no fewer. With a length of 0 no set is lent, whether the pointer is null or not.
+ * set: where the number of the set in use goes, JELMORAND_SECOND_SET where bytes are lent, even if they are the book's own, and
+ * JELMORAND_BOOK_SET otherwise.
+ * figures, factors: as in jelmorand_screen.
+ *
+ * Accepted, it fills `set`, and answers and fills all else as jelmorand_screen does: without a second set of this very job, and with
+ * one of the job whose book has the second set written over its own numbers. Half-lives, feeds and working level divisor are the
+ * book's, so the factors do not depend on whose coefficients are in use.
+ * Refused, it answers minus the refusal's number, and leaves `set`, `figures` and `factors` as they were. The length of `factors` is
+ * looked at last.
+ *
+ * A caller who means to lend a set looks at `set`: bytes that could not be read, and so are none, give the book's verdict. */
+int64_t jelmorand_screen_with(const uint8_t *job, size_t job_len, const uint8_t *second, size_t second_len, uint32_t *set,
+                              struct jelmorand_figures *figures, uint64_t *factors, size_t factors_len);
+
 /* The table of a chain book: the factors at each of a list of ventilation rates, for printing.
  *
  * rates: hundredths of an air change per hour, each 0 to 100,000; 1 to 200 of them, in any order.
@@ -228,6 +255,17 @@ int64_t jelmorand_factors_after(const uint32_t *periods, size_t periods_len, con
  *
  * It takes two to five times as long as a report, as measured. */
 int64_t jelmorand_lowest_rate(const uint8_t *job, size_t job_len);
+
+/* What jelmorand_lowest_rate says, with a second set of coefficients in use where one is lent.
+ *
+ * job: as in jelmorand_lowest_rate.
+ * second, set: as in jelmorand_screen_with.
+ *
+ * Accepted, it fills `set`, also where it answers JELMORAND_NO_RATE, and answers what jelmorand_lowest_rate does: without a second
+ * set of this very job, and with one of the job whose book has the second set written over its own numbers.
+ * Refused, it answers minus the refusal's number, the one that jelmorand_screen_with answers to the same job and set where `factors`
+ * is long enough, and leaves `set` as it was. */
+int64_t jelmorand_lowest_rate_with(const uint8_t *job, size_t job_len, const uint8_t *second, size_t second_len, uint32_t *set);
 
 #ifdef __cplusplus
 }

@@ -36,6 +36,32 @@ static void check_jobs(void)
     expect(jelmorand_lowest_rate(NULL, 0) == -JELMORAND_JOB_TOO_SHORT, "the lowest rate of a null job");
 }
 
+/* A null second set of length 0 is not lent; so the number of the set in use is the book's. */
+static void check_second_sets(void)
+{
+    uint8_t job[256], bytes[2 * JELMORAND_COEFFICIENTS_LENGTH];
+    uint64_t list[2];
+    struct jelmorand_figures figures;
+    for (int which = 0; which < 8; which++) {
+        const size_t length = which & 1 ? fan_job(job, 0, 4830) : 0;
+        const size_t lent = which & 2 ? put_second(bytes, 0, 1000) : 0;
+        const size_t room = which & 4 ? 2 : 0;
+        const uint8_t *given = length > 0 ? job : NULL;
+        const uint8_t *second = lent > 0 ? bytes : NULL;
+        uint64_t *factors = room > 0 ? list : NULL;
+        const uint32_t in_use = lent > 0 ? JELMORAND_SECOND_SET : JELMORAND_BOOK_SET;
+        uint32_t set = MARK;
+        const int64_t full = room > 0 ? 2 : -JELMORAND_LIST_TOO_SHORT;
+        const int64_t answer = jelmorand_screen_with(given, length, second, lent, &set, &figures, factors, room);
+        expect(answer == (length > 0 ? full : -JELMORAND_JOB_TOO_SHORT), "the figures of null lists and sets");
+        expect(set == (length > 0 && room > 0 ? in_use : MARK), "the set in use for the figures of null lists and sets");
+        set = MARK;
+        const int64_t rate = jelmorand_lowest_rate_with(given, length, second, lent, &set);
+        expect(rate == (length > 0 ? 0 : -JELMORAND_JOB_TOO_SHORT), "the lowest rate of null lists and sets");
+        expect(set == (length > 0 ? in_use : MARK), "the set in use for the lowest rate of null lists and sets");
+    }
+}
+
 static void check_tables(void)
 {
     static const uint32_t zero[] = {0};
@@ -58,6 +84,7 @@ int main(void)
 {
     check_lists();
     check_jobs();
+    check_second_sets();
     check_tables();
     return counted("nulls");
 }

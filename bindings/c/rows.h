@@ -1,4 +1,4 @@
-/* The rows of document 01 as bytes, and how an answer is looked at, for smoke.c and nulls.c. */
+/* The rows of document 01 as bytes, and how an answer is looked at, for the tests beside this file. */
 #ifndef ROWS_H
 #define ROWS_H
 
@@ -80,6 +80,21 @@ static inline uint8_t *put_job(uint8_t *at, uint32_t rate, uint32_t target, doub
 static inline size_t fan_job(uint8_t *job, uint32_t rate, uint32_t target)
 {
     return JELMORAND_JOB_LENGTH + one_feed(put_job(job, rate, target, 3.0), 1000);
+}
+
+/* Where member i of the book has its five numbers, in a job with its book. */
+static inline size_t numbers_at(size_t i)
+{
+    return JELMORAND_JOB_LENGTH + 8 + 32 * i + 8;
+}
+
+/* A second set for that job: the inhalation risks of its parent and of its member, and nothing else. */
+static inline size_t put_second(uint8_t *at, uint32_t of_parent, uint32_t of_member)
+{
+    memset(at, 0, 2 * JELMORAND_COEFFICIENTS_LENGTH);
+    put(at, of_parent, 4);
+    put(at + JELMORAND_COEFFICIENTS_LENGTH, of_member, 4);
+    return 2 * JELMORAND_COEFFICIENTS_LENGTH;
 }
 
 /* Says how many answers were right, and answers the status to end with. */

@@ -8,10 +8,8 @@
  * Those of kind 0 are whole jobs; the others are left out. */
 #define _XOPEN_SOURCE 700
 
-#include "jelmorand.h"
+#include "rows.h"
 
-#include <stdio.h>
-#include <string.h>
 #include <ucontext.h>
 
 #define SPACE 65536
@@ -22,7 +20,7 @@
 #define AFTER_LIMIT 2048
 #define JOB_LIMIT 3072
 
-enum call { NONE, FACTORS, AFTER, REPORT, FIGURES, TABLE, LOWEST, CALLS };
+enum call { NONE, FACTORS, AFTER, REPORT, FIGURES, TABLE, LOWEST, FIGURES_WITH, LOWEST_WITH, CALLS };
 
 static _Alignas(64) uint8_t space[SPACE];
 static ucontext_t here, there;
@@ -33,16 +31,28 @@ static uint32_t rates[JELMORAND_MAX_RATES];
 static const uint32_t periods[] = {500, 2, 100000, 1};
 static uint8_t job[65536];
 static size_t job_length;
+static uint8_t second[JELMORAND_MAX_MEMBERS * JELMORAND_COEFFICIENTS_LENGTH];
+static size_t second_length;
 
 static uint64_t factors[JELMORAND_MAX_MEMBERS];
 static struct jelmorand_figures figures;
 static uint8_t text[JELMORAND_TABLE_ROOM];
+static uint32_t set;
 static volatile int64_t answer;
 
 /* The book of the job; one that is too short has none. */
 static size_t book_length(void)
 {
     return job_length < JELMORAND_JOB_LENGTH ? 0 : job_length - JELMORAND_JOB_LENGTH;
+}
+
+/* Lends the book's own numbers as a second set, so that it is refused nothing but what the job is. */
+static void lend_own_numbers(void)
+{
+    const size_t members = book_length() > 0 ? job[JELMORAND_JOB_LENGTH] : 0;
+    second_length = 0;
+    for (size_t i = 0; i < members && i < JELMORAND_MAX_MEMBERS; i++, second_length += JELMORAND_COEFFICIENTS_LENGTH)
+        memcpy(second + second_length, job + numbers_at(i), JELMORAND_COEFFICIENTS_LENGTH);
 }
 
 static void make_call(void)
@@ -66,6 +76,12 @@ static void make_call(void)
         break;
     case LOWEST:
         answer = jelmorand_lowest_rate(job, job_length);
+        break;
+    case FIGURES_WITH:
+        answer = jelmorand_screen_with(job, job_length, second, second_length, &set, &figures, factors, JELMORAND_MAX_MEMBERS);
+        break;
+    case LOWEST_WITH:
+        answer = jelmorand_lowest_rate_with(job, job_length, second, second_length, &set);
         break;
     default:
         break;
@@ -144,16 +160,21 @@ int main(int count, char **words)
     }
     for (uint32_t i = 0; i < JELMORAND_MAX_RATES; i++)
         rates[i] = i * 500;
-    for (; next_job(cases); jobs++)
+    for (; next_job(cases); jobs++) {
+        lend_own_numbers();
         for (enum call which = FACTORS; which < CALLS; which++) {
             size_t bytes = used(which);
             if (bytes > most[which])
                 most[which] = bytes;
         }
+    }
     fclose(cases);
     printf("stack: the most over %d recorded jobs: a factor call %zu bytes, factors after periods %zu, "
            "a whole job with its report %zu, its figures %zu, a table of 200 rates %zu, a lowest rate %zu\n",
            jobs, most[FACTORS], most[AFTER], most[REPORT], most[FIGURES], most[TABLE], most[LOWEST]);
+    printf("stack with a second set of coefficients: a job's figures %zu bytes, a lowest rate %zu\n", most[FIGURES_WITH],
+           most[LOWEST_WITH]);
     return jobs == 0 || most[FACTORS] >= FACTORS_LIMIT || most[AFTER] >= AFTER_LIMIT || most[REPORT] >= JOB_LIMIT
-        || most[FIGURES] >= JOB_LIMIT || most[LOWEST] >= JOB_LIMIT;
+        || most[FIGURES] >= JOB_LIMIT || most[LOWEST] >= JOB_LIMIT || most[FIGURES_WITH] >= JOB_LIMIT
+        || most[LOWEST_WITH] >= JOB_LIMIT;
 }

@@ -23,7 +23,9 @@ _ARGUMENTS = {
     "jelmorand_table": [_NUMBERS, _SIZE, _BYTES, _SIZE, _ROOM, _SIZE],
     "jelmorand_report": [_BYTES, _SIZE, _ROOM, _SIZE],
     "jelmorand_screen": [_BYTES, _SIZE, ctypes.POINTER(Figures), _PLACES, _SIZE],
+    "jelmorand_screen_with": [_BYTES, _SIZE, _BYTES, _SIZE, _NUMBERS, ctypes.POINTER(Figures), _PLACES, _SIZE],
     "jelmorand_lowest_rate": [_BYTES, _SIZE],
+    "jelmorand_lowest_rate_with": [_BYTES, _SIZE, _BYTES, _SIZE, _NUMBERS],
     "jelmorand_refusal_sentence": [ctypes.c_int64],
 }
 
