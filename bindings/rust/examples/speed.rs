@@ -1,7 +1,7 @@
 //! Times the factor call and a whole job for many rates, a table of 200, and the factors after the most periods of the most minutes,
 //! beside the plain rewrite, at a book of 16 members and 64 feeds. The rewrite of a job allocates its text, and that of a table
 //! searches for each entry, digit by digit, so their times are no measure of a plain program's, and no ratio is printed there.
-//! A lowest rate is timed beside the whole job.
+//! A lowest rate is timed beside the whole job, and a job's figures with a second set of coefficients beside those without.
 #[path = "../tests/common/mod.rs"]
 mod common;
 
@@ -9,6 +9,7 @@ use common::books::book_of;
 use common::lowest_speed::timings;
 use common::periods::in_turn;
 use common::random::Random;
+use common::second_sets::any_numbers;
 use common::timing::{best, best_of_each};
 use common::{plain, plain_job, plain_minutes, plain_table};
 use jelmorand::{Exposure, Job, Kind, Medium, Unit};
@@ -66,6 +67,18 @@ fn time_report(book: &[u8]) {
     println!("speed: {RATES} jobs, 16 members, 64 feeds: proved {proved:?}, plain u128, with a text on the heap {rewrite:?}");
 }
 
+fn time_second_set(random: &mut Random, book: &[u8]) {
+    let (job, set) = (WORKROOM.with_book(book), any_numbers(random, jelmorand::MAX_MEMBERS));
+    let round = |set: Option<&[u8]>| {
+        for _ in 0..RATES / 10 {
+            black_box(jelmorand::screen_with(black_box(&job), black_box(set))).expect("a good job and set");
+        }
+    };
+    let (with_set, without) = best_of_each(ROUNDS * 10, || round(Some(&set)), || round(None));
+    let ratio = with_set.as_secs_f64() / without.as_secs_f64();
+    println!("speed: {} jobs' figures: {without:?}, with a second set {with_set:?}, ratio {ratio:.2}", RATES / 10);
+}
+
 fn time_table(book: &[u8]) {
     let rates: Vec<u32> = (0..200).map(|k| k * 500).collect();
     let (mut proved_text, mut plain_text) = ([0; jelmorand::TABLE_ROOM], [0; jelmorand::TABLE_ROOM]);
@@ -102,6 +115,7 @@ fn main() {
     let book = book_of(&mut random, 16, 64);
     time_factors(&book);
     time_report(&book);
+    time_second_set(&mut random, &book);
     time_table(&book);
     time_periods(&book);
     timings(&mut random).iter().for_each(|timing| println!("speed: {timing}"));

@@ -1,4 +1,5 @@
 //! The bytes of a chain book, from its members and feeds. Whether they are accepted, the library says.
+use crate::Coefficients;
 
 /// A member of a chain. No coefficient has a default, since one that is left out would clear rooms.
 #[derive(Clone, Copy, Debug, PartialEq, Eq)]
@@ -18,8 +19,10 @@ pub struct Member {
 }
 
 impl Member {
-    fn numbers(&self) -> [u32; 5] {
-        [self.inhalation_risk, self.submersion_risk, self.inhalation_dose, self.submersion_dose, self.weight]
+    /// All but the half-life, as a second set has it.
+    pub fn coefficients(&self) -> Coefficients {
+        let Member { inhalation_risk, submersion_risk, inhalation_dose, submersion_dose, weight, .. } = *self;
+        Coefficients { inhalation_risk, submersion_risk, inhalation_dose, submersion_dose, weight }
     }
 }
 
@@ -82,7 +85,7 @@ impl Book {
         bytes.extend([0; 4]);
         for (i, member) in self.members.iter().enumerate() {
             bytes.extend(member.half_life.to_le_bytes());
-            bytes.extend(member.numbers().iter().flat_map(|number| number.to_le_bytes()));
+            bytes.extend(member.coefficients().bytes());
             bytes.extend([self.feed_from(0, i), 0, 0, 0]);
         }
         bytes.extend(self.feeds.iter().enumerate().flat_map(|(j, feed)| self.feed_bytes(j, feed)));

@@ -1,6 +1,7 @@
 //! The calls that answer a list, a text or a rate.
+use crate::coefficients::lent;
 use crate::periods::Flat;
-use crate::{library, Refusal};
+use crate::{library, CoefficientSet, Refusal};
 
 /// The answer itself where it is not negative, and minus the refusal's number otherwise: every call answers so.
 pub(crate) fn answered(answer: i64) -> Result<usize, Refusal> {
@@ -38,11 +39,26 @@ pub fn report_into(job: &[u8], out: &mut [u8]) -> Result<usize, Refusal> {
 /// The lowest rate (hundredths of an air change per hour) at which the verdict on a whole job, the job's 48 bytes and its chain book,
 /// is `Verdict::Below`; `None` where no rate from 0 to 100,000 gives it. The job's own rate is checked, and otherwise ignored.
 pub fn lowest_rate(job: &[u8]) -> Result<Option<u32>, Refusal> {
+    lowest_rate_with(job, None).map(|lowest| lowest.rate)
+}
+
+/// A job's lowest rate, and whose coefficients it is of.
+#[derive(Clone, Copy, Debug, PartialEq, Eq)]
+pub struct LowestRate {
+    /// Hundredths of an air change per hour; `None` where no rate is enough.
+    pub rate: Option<u32>,
+    /// The set in use.
+    pub set: CoefficientSet,
+}
+
+/// The lowest rate as `lowest_rate` answers it, with a second set of coefficients in use where one is lent, as in `screen_with`.
+pub fn lowest_rate_with(job: &[u8], coefficients: Option<&[u8]>) -> Result<LowestRate, Refusal> {
     /// What the library answers where there is none: one more than the highest rate.
     const NO_RATE: u32 = 100_001;
-    let answer = answered(library::lowest_rate(job))?;
+    let mut set = 0;
+    let answer = answered(library::lowest_rate(job, lent(coefficients), &mut set))?;
     let rate = u32::try_from(answer).expect("the contracts name no other answer");
-    Ok((rate != NO_RATE).then_some(rate))
+    Ok(LowestRate { rate: (rate != NO_RATE).then_some(rate), set: CoefficientSet::from_number(set) })
 }
 
 /// The table of a chain book at 1 to 200 rates (hundredths of an air change per hour). Each rate has one line, in the list's order:

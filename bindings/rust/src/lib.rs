@@ -8,17 +8,18 @@
 //! quarter hours per day, 0 to 96; a job written in whole hours, as jobs used to be, must not be passed.
 //!
 //! ```
-//! use jelmorand::{Book, Exposure, Job, Kind, Medium, Member, Unit};
+//! use jelmorand::{Book, CoefficientSet, Coefficients, Exposure, Job, Kind, Medium, Member, Unit};
 //!
-//! let mut gas = Book::new(1_000);
-//! gas.member(Member {
+//! let radon = Member {
 //!     half_life: 330_350_400_000_000,
 //!     inhalation_risk: 1_000,
 //!     submersion_risk: 0,
 //!     inhalation_dose: 0,
 //!     submersion_dose: 0,
 //!     weight: 0,
-//! });
+//! };
+//! let mut gas = Book::new(1_000);
+//! gas.member(radon);
 //! let home = Job {
 //!     rate: 0,
 //!     kind: Kind::Risk,
@@ -37,7 +38,15 @@
 //! assert_eq!(report.verdict, jelmorand::Verdict::Below);
 //! assert_eq!((report.concentration, report.level), (37_000, 37_000));
 //! assert_eq!(*report.factors, [1_099_511_627_776]);
-//! assert_eq!(report.working, None);
+//! assert_eq!((report.working, report.set), (None, CoefficientSet::Book));
+//!
+//! // The same with the coefficients of somebody else, which are lent beside the book.
+//! let partner = Coefficients { inhalation_risk: 1_001, ..radon.coefficients() };
+//! let report = jelmorand::screen_with(&job, Some(&partner.bytes()))?;
+//! assert_eq!((report.verdict, report.set), (jelmorand::Verdict::Above, CoefficientSet::Second));
+//! assert_eq!(jelmorand::lowest_rate_with(&job, Some(&partner.bytes()))?.rate, None);
+//! let no_set = jelmorand::screen_with(&job, Some(&[])).unwrap_err();
+//! assert_eq!(no_set, jelmorand::Refusal::SecondSetOutOfRange);
 //!
 //! // The gas has the same risk at every rate, so either none is too low or, with a target of one billionth less, all are.
 //! assert_eq!(jelmorand::lowest_rate(&job)?, Some(0));
@@ -63,6 +72,7 @@
 #[cfg(feature = "std")]
 mod book;
 mod calls;
+mod coefficients;
 mod job;
 mod library;
 mod periods;
@@ -72,12 +82,13 @@ mod version;
 
 #[cfg(feature = "std")]
 pub use book::{Book, Member};
-pub use calls::{factors, factors_after, lowest_rate, report_into, table_into};
+pub use calls::{factors, factors_after, lowest_rate, lowest_rate_with, report_into, table_into, LowestRate};
 #[cfg(feature = "std")]
 pub use calls::{report, table};
+pub use coefficients::{CoefficientSet, Coefficients, COEFFICIENTS_LENGTH};
 pub use job::{Exposure, Group, Job, Kind, Medium, Unit, JOB_LENGTH};
 pub use refusal::Refusal;
-pub use report::{screen, Factors, Report, Verdict, WorkingLevels};
+pub use report::{screen, screen_with, Factors, Report, Verdict, WorkingLevels};
 pub use version::{library_version, VERSION};
 
 /// The most members that a book has, so the most factors that are written.

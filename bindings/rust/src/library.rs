@@ -1,6 +1,7 @@
 //! The calls of the archive, on slices: the one module with `unsafe`. A slice's pointer is never null, is aligned and has its length
-//! of elements behind it, and `out` is borrowed alone, so each call gets what the C header asks. Every call answers what the C one
-//! does, once the archive is known to be of this package's version.
+//! of elements behind it, and what is written is borrowed alone, so each call gets what the C header asks. Every call answers what the
+//! C one does, once the archive is known to be of this package's version. Those that may be lent a second set are always made so: with
+//! no bytes they answer what the calls without one do.
 #![allow(unsafe_code)]
 
 use crate::version;
@@ -37,8 +38,17 @@ extern "C" {
         out: *mut u64,
         out_len: usize,
     ) -> i64;
-    fn jelmorand_screen(job: *const u8, job_len: usize, figures: *mut Figures, factors: *mut u64, factors_len: usize) -> i64;
-    fn jelmorand_lowest_rate(job: *const u8, job_len: usize) -> i64;
+    fn jelmorand_screen_with(
+        job: *const u8,
+        job_len: usize,
+        second: *const u8,
+        second_len: usize,
+        set: *mut u32,
+        figures: *mut Figures,
+        factors: *mut u64,
+        factors_len: usize,
+    ) -> i64;
+    fn jelmorand_lowest_rate_with(job: *const u8, job_len: usize, second: *const u8, second_len: usize, set: *mut u32) -> i64;
 }
 
 pub fn version() -> i64 {
@@ -65,12 +75,13 @@ pub fn factors_after(periods: &[u32], book: &[u8], out: &mut [u64]) -> i64 {
     unsafe { jelmorand_factors_after(periods.as_ptr(), periods.len(), book.as_ptr(), book.len(), out.as_mut_ptr(), out.len()) }
 }
 
-pub fn screen(job: &[u8], figures: &mut Figures, factors: &mut [u64]) -> i64 {
+pub fn screen(job: &[u8], second: &[u8], set: &mut u32, figures: &mut Figures, factors: &mut [u64]) -> i64 {
     version::check();
-    unsafe { jelmorand_screen(job.as_ptr(), job.len(), figures, factors.as_mut_ptr(), factors.len()) }
+    let (lent, places) = (second.as_ptr(), factors.as_mut_ptr());
+    unsafe { jelmorand_screen_with(job.as_ptr(), job.len(), lent, second.len(), set, figures, places, factors.len()) }
 }
 
-pub fn lowest_rate(job: &[u8]) -> i64 {
+pub fn lowest_rate(job: &[u8], second: &[u8], set: &mut u32) -> i64 {
     version::check();
-    unsafe { jelmorand_lowest_rate(job.as_ptr(), job.len()) }
+    unsafe { jelmorand_lowest_rate_with(job.as_ptr(), job.len(), second.as_ptr(), second.len(), set) }
 }

@@ -1,7 +1,8 @@
 //! What a job's report says, as fields.
 use crate::calls::answered;
+use crate::coefficients::lent;
 use crate::library::{self, Figures};
-use crate::{Refusal, MAX_MEMBERS};
+use crate::{CoefficientSet, Refusal, MAX_MEMBERS};
 use core::fmt;
 use core::ops::Deref;
 
@@ -59,19 +60,28 @@ pub struct Report {
     pub level: u64,
     /// `None` where no later member of the chain has alpha energy without ventilation.
     pub working: Option<WorkingLevels>,
+    /// Whose coefficients the verdict, the level and the working levels are of. The factors do not depend on it.
+    pub set: CoefficientSet,
 }
 
 /// What the report of a whole job says, the job's 48 bytes and its chain book; or why it is refused.
 pub fn screen(job: &[u8]) -> Result<Report, Refusal> {
-    let mut figures = Figures::default();
-    let mut places = [0; MAX_MEMBERS];
-    let count = answered(library::screen(job, &mut figures, &mut places))?;
+    screen_with(job, None)
+}
+
+/// The same with a second set of coefficients in use, where one is lent beside the book: 20 bytes for each of its members, in its order,
+/// as `Coefficients` writes them. But for `set` it is then the report of the job whose book has the second set written over its own
+/// numbers. A set that is lent and empty is refused as one of a wrong length, so that nobody gets the book's verdict for it.
+pub fn screen_with(job: &[u8], coefficients: Option<&[u8]>) -> Result<Report, Refusal> {
+    let (mut set, mut figures, mut places) = (0, Figures::default(), [0; MAX_MEMBERS]);
+    let count = answered(library::screen(job, lent(coefficients), &mut set, &mut figures, &mut places))?;
     Ok(Report {
         factors: Factors { places, count },
         concentration: figures.concentration,
         verdict: verdict(figures.verdict),
         level: figures.level,
         working: working(&figures),
+        set: CoefficientSet::from_number(set),
     })
 }
 

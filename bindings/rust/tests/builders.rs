@@ -3,9 +3,10 @@ mod common;
 
 use common::books::{any_rate, good_book};
 use common::plain::{self, Chain};
+use common::plain_second::own_set;
 use common::random::Random;
 use common::recorded;
-use jelmorand::{Book, Exposure, Group, Job, Kind, Medium, Member, Unit, JOB_LENGTH};
+use jelmorand::{Book, CoefficientSet, Coefficients, Exposure, Group, Job, Kind, Medium, Member, Unit, JOB_LENGTH};
 
 const HEADER: &str = include_str!("../../c/jelmorand.h");
 const BOOKS: usize = 2_000;
@@ -49,6 +50,15 @@ fn put_together(chain: &Chain, feeds: &[(usize, usize)]) -> Vec<u8> {
     book.bytes()
 }
 
+/// The chain's coefficients as a second set.
+fn second_set(chain: &Chain) -> Vec<u8> {
+    let bytes = |member: &plain::Member| {
+        let [inhalation_risk, submersion_risk, inhalation_dose, submersion_dose, weight] = member.numbers;
+        Coefficients { inhalation_risk, submersion_risk, inhalation_dose, submersion_dose, weight }.bytes()
+    };
+    chain.members.iter().flat_map(bytes).collect()
+}
+
 /// Each feed's place with the member that it feeds, member by member.
 fn in_chains(chain: &Chain) -> Vec<(usize, usize)> {
     chain.fed_by.iter().enumerate().flat_map(|(i, list)| list.iter().map(move |j| (*j, i))).collect()
@@ -80,6 +90,7 @@ fn recorded_jobs_are_put_together() {
     for job in recorded::jobs(recorded::REPORT).iter().filter(|job| jelmorand::screen(job).is_ok()) {
         assert_eq!(job_of(job).bytes(), job[..JOB_LENGTH], "{job:?}");
         let chain = plain::read(&job[JOB_LENGTH..]).expect("a good book");
+        assert_eq!(second_set(&chain), own_set(job, chain.members.len()), "{job:?}");
         if let Some(feeds) = by_place(&chain) {
             assert_eq!(put_together(&chain, &feeds), job[JOB_LENGTH..], "{job:?}");
             books += 1;
@@ -148,6 +159,12 @@ fn values_are_the_header_s() {
     for (name, values) in [("kind", kinds.join(", ")), ("medium", media.join(", ")), ("unit", units.join(", "))] {
         assert!(HEADER.contains(&format!("enum jelmorand_{name} {{ {values} }};")), "{name}: {values}");
     }
+}
+
+#[test]
+fn sets_are_the_header_s() {
+    let numbers = [CoefficientSet::Book, CoefficientSet::Second].map(|set| listed(&format!("{set:?}Set"), set as u8));
+    assert!(HEADER.contains(&format!("enum jelmorand_coefficient_set {{ {} }};", numbers.join(", "))), "{numbers:?}");
 }
 
 #[test]

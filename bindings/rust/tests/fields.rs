@@ -6,28 +6,10 @@ use common::edge_jobs::edge_job;
 use common::plain_job;
 use common::random::Random;
 use common::recorded;
-use jelmorand::{Report, Verdict, WorkingLevels};
+use common::texts::{text_of, word};
+use jelmorand::{Report, WorkingLevels};
 
 const JOBS: usize = 10_000;
-
-fn word(verdict: Verdict) -> &'static str {
-    match verdict {
-        Verdict::Below => "below",
-        Verdict::Close => "close",
-        Verdict::Above => "above",
-    }
-}
-
-/// The text that a report with these fields has.
-fn text_of(report: &Report) -> String {
-    let factors: String = report.factors.iter().enumerate().map(|(i, grains)| format!("factor {i} {grains}\n")).collect();
-    let working = match report.working {
-        None => "equilibrium none\nworking none\n".to_owned(),
-        Some(levels) => format!("equilibrium {}\nworking {}\n", levels.equilibrium, levels.micro),
-    };
-    let (air, verdict, level) = (report.concentration, word(report.verdict), report.level);
-    format!("{factors}concentration {air}\nverdict {verdict}\nlevel {level}\n{working}")
-}
 
 /// The figures' text, which for a refused job is the line of its refusal.
 fn screened(job: &[u8]) -> String {

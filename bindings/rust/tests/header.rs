@@ -66,6 +66,7 @@ fn sizes_are_the_header_s() {
     assert_eq!(jelmorand::MAX_MEMBERS, defined("MAX_MEMBERS") as usize);
     assert_eq!(jelmorand::MAX_RATES, defined("MAX_RATES") as usize);
     assert_eq!(jelmorand::JOB_LENGTH, defined("JOB_LENGTH") as usize);
+    assert_eq!(jelmorand::COEFFICIENTS_LENGTH, defined("COEFFICIENTS_LENGTH") as usize);
     assert_eq!(jelmorand::TABLE_ROOM, defined("TABLE_ROOM") as usize);
     assert_eq!(jelmorand::MAX_PERIODS, defined("MAX_PERIODS") as usize);
     assert_eq!(jelmorand::MAX_MINUTES, defined("MAX_MINUTES"));

@@ -8,6 +8,7 @@ use common::fan_jobs::fan_job;
 use common::plain_lowest::{self, HIGHEST, ONE_BY_ONE};
 use common::random::Random;
 use common::recorded;
+use common::texts::rate_line;
 
 const JOBS: usize = 14_000;
 const EVERY_RATE_JOBS: usize = 150;
@@ -100,21 +101,12 @@ fn lowest_rate_is_the_first_of_all() {
     assert!(met.every_rate(), "some kind of rate never came up");
 }
 
-/// The line that `fan` writes.
-fn line(job: &[u8]) -> String {
-    match answer(job) {
-        Ok(Some(rate)) => format!("rate {rate}"),
-        Ok(None) => "rate none".to_owned(),
-        Err(number) => format!("refused {number}"),
-    }
-}
-
 #[test]
 fn recorded_answers_are_given() {
     let (jobs, lines) = (recorded::jobs(recorded::LOWEST), recorded::lowest_lines());
     assert_eq!(jobs.len(), lines.len(), "each recorded job has a line");
     for (count, (job, expected)) in jobs.iter().zip(&lines).enumerate() {
-        assert_eq!(line(job), *expected, "recorded job {count}: {job:?}");
+        assert_eq!(rate_line(answer(job)), *expected, "recorded job {count}: {job:?}");
         assert_eq!(answer(job), plain_lowest::lowest_rate(job), "recorded job {count}: {job:?}");
     }
 }

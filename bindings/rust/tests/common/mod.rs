@@ -1,5 +1,5 @@
-//! What the tests and the timing share: a rewrite of documents 01 and 02 in plain Rust, random books, jobs, tables and periods, the
-//! recorded jobs, and how a time is taken.
+//! What the tests and the timing share: a rewrite of documents 01 and 02 in plain Rust, random books, jobs, second sets, tables and
+//! periods, the recorded jobs, answers as texts, and how a time is taken.
 #![allow(dead_code)]
 
 pub mod books;
@@ -11,8 +11,11 @@ pub mod plain;
 pub mod plain_job;
 pub mod plain_lowest;
 pub mod plain_minutes;
+pub mod plain_second;
 pub mod plain_table;
 pub mod random;
 pub mod recorded;
+pub mod second_sets;
 pub mod tables;
+pub mod texts;
 pub mod timing;
