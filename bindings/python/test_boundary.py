@@ -35,7 +35,8 @@ class Header(unittest.TestCase):
         self.assertIn(f'\nversion = "{jelmorand.__version__}"\n', manifest)
 
     def test_sizes(self):
-        for name in ("REPORT_ROOM", "MAX_MEMBERS", "TABLE_ROOM", "MAX_RATES", "MAX_PERIODS", "MAX_MINUTES", "NO_RATE"):
+        names = ("REPORT_ROOM", "MAX_MEMBERS", "TABLE_ROOM", "MAX_RATES", "MAX_PERIODS", "MAX_MINUTES", "NO_RATE", "COEFFICIENTS_LENGTH")
+        for name in names:
             self.assertEqual(getattr(_limits, name), self.defined(name))
 
     def test_figures(self):
@@ -44,6 +45,10 @@ class Header(unittest.TestCase):
         verdicts = re.search(r"enum jelmorand_verdict \{ (.*) \};", self.HEADER)[1]
         named = ", ".join(f"JELMORAND_{word.upper()} = {number}" for number, word in _screening.VERDICTS.items())
         self.assertEqual(verdicts, named)
+
+    def test_sets(self):
+        named = ", ".join(f"JELMORAND_{one.name}_SET = {one.value}" for one in jelmorand.CoefficientSet)
+        self.assertIn(f"enum jelmorand_coefficient_set {{ {named} }};", self.HEADER)
 
     def test_declarations(self):
         """Every call that the header declares has its arguments' types here, and no other has."""

@@ -17,7 +17,7 @@ sys.path.insert(0, str(ROOT / "docs" / "src"))
 import jelmorand
 import recorded
 import reference
-from jelmorand import Book, Group, Job, Kind, Medium, Unit
+from jelmorand import Book, Coefficients, Group, Job, Kind, Medium, Unit
 
 HEADER = (ROOT / "bindings" / "c" / "jelmorand.h").read_text("ascii")
 
@@ -176,6 +176,47 @@ class Books(unittest.TestCase):
             self.book(1, weight=0.5)
         with self.assertRaises(TypeError):
             self.book(2).feed(0.5, 0, 1)
+
+
+class SecondSets(unittest.TestCase):
+    NUMBERS = dict(inhalation_risk=150, submersion_risk=10, inhalation_dose=3, submersion_dose=2, weight=1)
+
+    def test_recorded_books(self):
+        """The book's own numbers, which are byte for byte in it."""
+        for data in accepted_jobs():
+            members = reference.read_book(data[48:]).members
+            own = b"".join(bytes(Coefficients(*coefficients)) for _, *coefficients in members)
+            places = (48 + 8 + 32 * i + 8 for i in range(len(members)))
+            self.assertEqual(own, b"".join(data[at : at + jelmorand.COEFFICIENTS_LENGTH] for at in places))
+
+    def test_order(self):
+        """By name each number stands in its place."""
+        made = bytes(Coefficients(**dict(reversed(self.NUMBERS.items()))))
+        self.assertEqual(struct.unpack("<5I", made), tuple(self.NUMBERS.values()))
+
+    def test_nothing_has_a_default(self):
+        for name in self.NUMBERS:
+            with self.assertRaises(TypeError, msg=name):
+                Coefficients(**{other: number for other, number in self.NUMBERS.items() if other != name})
+
+    def test_wrong_numbers(self):
+        for name in self.NUMBERS:
+            for wrong in (0.5, "1", None):
+                with self.assertRaises(TypeError, msg=(name, wrong)):
+                    bytes(Coefficients(**dict(self.NUMBERS, **{name: wrong})))
+            with self.assertRaises(ValueError):
+                bytes(Coefficients(**dict(self.NUMBERS, **{name: -1})))
+
+    def test_numbers_that_are_too_large(self):
+        """They are refused, also where their bytes could hold what is left of them."""
+        data = (ROOT / "examples" / "radon.job").read_bytes()
+        own = [bytes(Coefficients(*coefficients)) for _, *coefficients in reference.read_book(data[48:]).members]
+        for name in self.NUMBERS:
+            for number in (4_000_000_001, 2**32, 2**64 + 1):
+                last = bytes(Coefficients(**dict(self.NUMBERS, **{name: number})))
+                with self.assertRaises(jelmorand.Refused) as caught:
+                    jelmorand.screen_with(data, b"".join(own[:-1]) + last)
+                self.assertEqual(caught.exception.number, 23)
 
 
 class Names(unittest.TestCase):

@@ -7,14 +7,11 @@
 import array
 import ctypes
 import fractions
-import pathlib
 import random
 import struct
-import sys
 import unittest
 
-ROOT = pathlib.Path(__file__).resolve().parents[2]
-sys.path.insert(0, str(ROOT / "docs" / "src"))
+from answers import ROOT, expected_figures, lent_figures, rate_text, recorded_answers, recorded_bodies, text_of
 
 import jelmorand
 from jelmorand import _library, _limits
@@ -23,14 +20,7 @@ import reference
 from packing import bits, pack_book, pack_feed, pack_job, pack_member
 
 GRAINS = 1 << 40
-
-
-def recorded_bodies(kind=recorded.JOB):
-    return [body for body, _ in recorded.read_cases(kind)]
-
-
-def recorded_answers(kind):
-    return [answer for _, answer in recorded.read_cases(kind)]
+BOOK = jelmorand.CoefficientSet.BOOK
 
 
 def recorded_tables():
@@ -48,35 +38,6 @@ def any_numbers(chance):
     if chance.randrange(6) == 0:
         periods[chance.randrange(len(periods))] = chance.choice((0, 1_441, 100_001, 2**32 - 1))
     return periods
-
-
-def text_of(report):
-    """The text that a report with these fields has."""
-    working = report.working
-    lines = [f"factor {i} {grains}" for i, grains in enumerate(report.factors)]
-    lines += [f"concentration {report.concentration}", f"verdict {report.verdict}", f"level {report.level}"]
-    lines += [f"equilibrium {working.equilibrium if working else 'none'}", f"working {working.micro if working else 'none'}"]
-    return "".join(line + "\n" for line in lines)
-
-
-def lent_figures(job, room):
-    """The answer, the figures and the whole list; each number was 7 before the call."""
-    figures, places = _library.Figures(*[7] * 6), (ctypes.c_uint64 * room)(*[7] * room)
-    answer = _library.LIBRARY.jelmorand_screen(job, len(job), ctypes.byref(figures), places, room)
-    return answer, [getattr(figures, name) for name, _ in figures._fields_], list(places)
-
-
-def expected_figures(text, room):
-    """The same by a report's text."""
-    lines = [line.split(" ") for line in text.splitlines()]
-    factors = [int(line[2]) for line in lines if line[0] == "factor"]
-    refusal = int(lines[0][1]) if lines[0][0] == "refused" else 19 if len(factors) > room else 0
-    if refusal:
-        return -refusal, [7] * 6, [7] * room
-    words = {line[0]: line[1] for line in lines if line[0] != "factor"}
-    verdict = 1 + ("below", "close", "above").index(words["verdict"])
-    numbers = [2**64 - 1 if words[name] == "none" else int(words[name]) for name in ("concentration", "level", "equilibrium", "working")]
-    return len(factors), [verdict, *numbers, len(factors)], factors + [7] * (room - len(factors))
 
 
 def screened(job):
@@ -332,16 +293,15 @@ class Reports(unittest.TestCase):
 
     def test_parent_alone(self):
         job = pack_job(unit=0, target=1_610, value=bits(1.0)) + pack_book([pack_member(1, inhalation_risk=1_000)], [])
-        self.assertEqual(jelmorand.screen(job), jelmorand.Report([GRAINS], 37_000, "below", 37_000, None))
+        self.assertEqual(jelmorand.screen(job), jelmorand.Report([GRAINS], 37_000, "below", 37_000, None, BOOK))
 
 
 def fan_line(job):
     """The line that `fan` writes."""
     try:
-        rate = jelmorand.lowest_rate(job)
+        return rate_text(jelmorand.lowest_rate(job))
     except jelmorand.Refused as refused:
         return f"refused {refused.number}\n"
-    return f"rate {'none' if rate is None else rate}\n"
 
 
 def at_rate(v, job):

@@ -12,14 +12,16 @@ what their contracts in crates/jelmorand say, for every input; this package, whi
 """
 
 from ._books import Book
-from ._calls import factors, factors_after, lowest_rate, report, table
+from ._calls import LowestRate, factors, factors_after, lowest_rate, lowest_rate_with, report, table
+from ._coefficients import Coefficients, CoefficientSet
 from ._jobs import JOB_LENGTH, RESIDENTIAL, WORKER, Exposure, Group, Job, Kind, Medium, Unit
-from ._limits import MAX_MEMBERS, MAX_MINUTES, MAX_PERIODS, MAX_RATES, REPORT_ROOM, TABLE_ROOM
+from ._limits import COEFFICIENTS_LENGTH, MAX_MEMBERS, MAX_MINUTES, MAX_PERIODS, MAX_RATES, REPORT_ROOM, TABLE_ROOM
 from ._refusals import GROUNDS, Refused
-from ._screening import Report, WorkingLevels, screen
+from ._screening import Report, WorkingLevels, screen, screen_with
 from ._version import __version__
 
 __all__ = [
+    "COEFFICIENTS_LENGTH",
     "GROUNDS",
     "JOB_LENGTH",
     "MAX_MEMBERS",
@@ -31,10 +33,13 @@ __all__ = [
     "TABLE_ROOM",
     "WORKER",
     "Book",
+    "CoefficientSet",
+    "Coefficients",
     "Exposure",
     "Group",
     "Job",
     "Kind",
+    "LowestRate",
     "Medium",
     "Refused",
     "Report",
@@ -44,7 +49,9 @@ __all__ = [
     "factors",
     "factors_after",
     "lowest_rate",
+    "lowest_rate_with",
     "report",
     "screen",
+    "screen_with",
     "table",
 ]

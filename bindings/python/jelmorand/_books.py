@@ -5,6 +5,7 @@ from __future__ import annotations
 import struct
 from typing import NamedTuple, SupportsIndex
 
+from ._coefficients import Coefficients
 from ._given import MOST_32_BITS, whole
 
 _MOST_8_BITS, _MOST_16_BITS, _MOST_64_BITS = (2**bits - 1 for bits in (8, 16, 64))
@@ -46,14 +47,11 @@ class Book:
         one that is left out would clear rooms.
 
         half_life: nanoseconds.
-        inhalation_risk: 10^-17 per pCi; submersion_risk: 10^-17 per year per pCi/m3.
-        inhalation_dose: 10^-10 mrem per pCi; submersion_dose: 10^-10 mrem per year per pCi/m3.
-        weight: alpha energy per decay, in any one unit for the whole book.
+        The other five are in the units of Coefficients.
         """
-        given = (inhalation_risk, submersion_risk, inhalation_dose, submersion_dose, weight)
-        coefficients = [whole(number, "a coefficient or weight is a whole number", MOST_32_BITS) for number in given]
+        coefficients = Coefficients(inhalation_risk, submersion_risk, inhalation_dose, submersion_dose, weight)
         life = whole(half_life, "a half-life is a whole number of nanoseconds", _MOST_64_BITS)
-        self._members.append(struct.pack("<Q5I", life, *coefficients))
+        self._members.append(struct.pack("<Q", life) + bytes(coefficients))
         return len(self._members) - 1
 
     def feed(self, share: SupportsIndex, source: int, into: int) -> None:

@@ -3,8 +3,10 @@
 from __future__ import annotations
 
 import ctypes
+import dataclasses
 from typing import TYPE_CHECKING, Iterable, List, Optional, SupportsIndex, Tuple
 
+from ._coefficients import CoefficientSet, lent
 from ._given import listed_periods, listed_rates, plain, rate_of
 from ._library import LIBRARY
 from ._limits import MAX_MEMBERS, NO_RATE, REPORT_ROOM, TABLE_ROOM
@@ -70,6 +72,19 @@ def report(job: Bytes) -> str:
 def lowest_rate(job: Bytes) -> Optional[int]:
     """The lowest rate at which the verdict on a whole job is 'below', in hundredths of an air change per hour; None where no rate
     from 0 to 100,000 gives it. The job's own rate is checked, and otherwise ignored. Raises Refused where the job is refused."""
-    data = plain(job, "job")
-    rate = answered(LIBRARY.jelmorand_lowest_rate(data, len(data)))
-    return None if rate == NO_RATE else rate
+    return lowest_rate_with(job, None).rate
+
+
+@dataclasses.dataclass(frozen=True)
+class LowestRate:
+    """A job's lowest rate, None where no rate is enough, and whose coefficients it is of."""
+
+    rate: Optional[int]
+    set: CoefficientSet
+
+
+def lowest_rate_with(job: Bytes, coefficients: Optional[Bytes]) -> LowestRate:
+    """The lowest rate as `lowest_rate` answers it, with a second set of coefficients in use where one is lent, as in `screen_with`."""
+    data, second, in_use = plain(job, "job"), lent(coefficients), ctypes.c_uint32()
+    rate = answered(LIBRARY.jelmorand_lowest_rate_with(data, len(data), second, len(second), ctypes.byref(in_use)))
+    return LowestRate(None if rate == NO_RATE else rate, CoefficientSet(in_use.value))

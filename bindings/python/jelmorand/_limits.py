@@ -18,5 +18,8 @@ MAX_PERIODS = 32
 MAX_MINUTES = 1_440
 """The most minutes that a period has."""
 
+COEFFICIENTS_LENGTH = 20
+"""The bytes of one member in a second set of coefficients."""
+
 NO_RATE = 100_001
 """What the library answers for a lowest rate where there is none: one more than the highest rate."""
