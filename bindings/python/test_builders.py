@@ -50,6 +50,13 @@ def by_number(data, book):
     return [fed[number] for number in sorted(fed)], all(chain == sorted(chain) for chain in chains)
 
 
+def page_dumps():
+    """The bytes of each dump that docs/FORMAT.md prints: a job with its book, and a second set beside it."""
+    page = (ROOT / "docs" / "FORMAT.md").read_text("utf-8")
+    dumps = re.findall(r"((?:    [0-9a-f]{8}: .*\n)+)", page)
+    return [bytes.fromhex("".join(re.findall(r"    [0-9a-f]{8}: ((?:[0-9a-f]{4} ?)+) ", dump))) for dump in dumps]
+
+
 def accepted_jobs():
     for data, answer in recorded.read_cases(recorded.JOB):
         if not answer.startswith("refused"):
@@ -59,13 +66,11 @@ def accepted_jobs():
 class Jobs(unittest.TestCase):
     def test_format_s_example(self):
         """The bytes that the page prints, from the values that it names."""
-        page = (ROOT / "docs" / "FORMAT.md").read_text("utf-8")
-        lines = re.findall(r"    000000\d0: ((?:[0-9a-f]{4} ?)+) ", page)
         job = Job(rate=0, kind=Kind.RISK, medium=Medium.INDOOR_AIR, unit=Unit.PCI_PER_L, target=1_610, attenuation=1_000_000,
                   value=1.0, uncertainty=0, exposure=jelmorand.RESIDENTIAL)
         book = Book(divisor=1_000)
         book.member(half_life=330_350_400_000_000, inhalation_risk=1_000, submersion_risk=0, inhalation_dose=0, submersion_dose=0, weight=0)
-        self.assertEqual(bytes(job) + bytes(book), bytes.fromhex("".join(lines)))
+        self.assertEqual(bytes(job) + bytes(book), page_dumps()[0])
         self.assertEqual(jelmorand.screen(bytes(job) + bytes(book)).verdict, "below")
 
     def test_examples(self):
@@ -180,6 +185,14 @@ class Books(unittest.TestCase):
 
 class SecondSets(unittest.TestCase):
     NUMBERS = dict(inhalation_risk=150, submersion_risk=10, inhalation_dose=3, submersion_dose=2, weight=1)
+
+    def test_format_s_example(self):
+        """The bytes that the page prints beside its job, and what they make of it."""
+        job, second = page_dumps()
+        self.assertEqual(bytes(Coefficients(2_000, 0, 0, 0, 0)), second)
+        report = jelmorand.screen_with(job, second)
+        self.assertEqual((report.set, report.verdict, report.level), (jelmorand.CoefficientSet.SECOND, "above", 18_500))
+        self.assertIsNone(jelmorand.lowest_rate_with(job, second).rate)
 
     def test_recorded_books(self):
         """The book's own numbers, which are byte for byte in it."""

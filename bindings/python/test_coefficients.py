@@ -1,5 +1,5 @@
-"""Jobs and lowest rates with a second set of coefficients: against the reference, and against the job whose book has the set written over
-its own numbers.
+"""Jobs and lowest rates with a second set of coefficients: against the reference and the recorded cases, and against the job whose book
+has the set written over its own numbers.
 
     JELMORAND_SO=target/libjelmorand.so python3 bindings/python/test_coefficients.py
 """
@@ -10,7 +10,7 @@ import random
 import struct
 import unittest
 
-from answers import ROOT, expected_figures, lent_figures, recorded_bodies
+from answers import ROOT, expected_figures, lent_figures, rate_text, recorded_answers, recorded_bodies, text_of
 
 import jelmorand
 import recorded
@@ -68,9 +68,32 @@ def lent_rate(job, second):
     return LIBRARY.jelmorand_lowest_rate_with(job, len(job), second, len(second), ctypes.byref(in_use)), in_use.value
 
 
+def told(call, job, second):
+    """The answer, or the number of the refusal."""
+    try:
+        return call(job, second)
+    except jelmorand.Refused as refused:
+        return refused.number
+
+
+def answered(job, second):
+    """What the program `partner` writes. Both calls must refuse alike, and name one set."""
+    report, lowest = (told(call, job, second) for call in (jelmorand.screen_with, jelmorand.lowest_rate_with))
+    if isinstance(report, int):
+        assert lowest == report, (lowest, report, second, job)
+        return f"refused {report}\n"
+    assert lowest.set is report.set, (lowest, report, second, job)
+    return f"set {report.set.value}\n" + text_of(report) + rate_text(lowest.rate)
+
+
 class Recorded(unittest.TestCase):
     def accepted(self):
         return [job for job, text in recorded.read_cases(recorded.JOB) if not text.startswith("refused")]
+
+    def test_recorded_answers(self):
+        """The recorded second sets, those of no bytes not lent."""
+        calls = [recorded.PARTNER.unpack(body) for body in recorded_bodies(recorded.PARTNER)]
+        self.assertEqual([answered(job, second or None) for second, job in calls], recorded_answers(recorded.PARTNER))
 
     def test_not_lent(self):
         """Every recorded job without a second set, in lists with room and without: the figures and places that it has, and set 1."""

@@ -1,5 +1,5 @@
-//! Jobs and lowest rates with a second set of coefficients: against the plain rewrite on random jobs and sets, and against what R-7 of
-//! document 02 promises.
+//! Jobs and lowest rates with a second set of coefficients: against the plain rewrite on random jobs and sets and on the recorded ones,
+//! and against what R-7 of document 02 promises.
 mod common;
 
 use common::books::{any_job, good_book};
@@ -78,6 +78,14 @@ fn answers_agree_with_the_rewrite() {
     let Met { refused, sets, turned } = met;
     println!("second: {JOBS} jobs, sets {sets:?}, from and to 'below' {turned:?}, refusals by number {:?}", &refused[1..]);
     assert!(met.everything(), "some answer never came up");
+}
+
+#[test]
+fn recorded_sets_are_answered() {
+    for (count, (set, job)) in recorded::second_sets().iter().enumerate() {
+        let lent = (!set.is_empty()).then_some(&set[..]);
+        assert_eq!(answer(job, lent), partner(job, lent), "recorded job {count}: {set:?} beside {job:?}");
+    }
 }
 
 /// Of random jobs those that are accepted, each with a good set.

@@ -1,14 +1,15 @@
 //! The recorded jobs, and the lines that `fan` writes; docs/src/recorded.py says how the two files are written.
 
-/// The kinds of the cases that are jobs: answered by a report, or by a lowest rate.
+/// The kinds of the cases that are jobs: answered by a report, by a lowest rate, or by both with a second set of coefficients.
 pub const REPORT: u8 = 0;
 pub const LOWEST: u8 = 1;
+const PARTNER: u8 = 5;
 
 fn path(file: &str) -> String {
     format!("{}/../../crates/recorded/{file}", env!("CARGO_MANIFEST_DIR"))
 }
 
-/// Every recorded job of a kind.
+/// Every recorded body of a kind, which but for the last kind is a job.
 pub fn jobs(kind: u8) -> Vec<Vec<u8>> {
     let bytes = std::fs::read(path("stdin")).expect("the recorded cases");
     let (mut jobs, mut rest) = (Vec::new(), &bytes[..]);
@@ -21,6 +22,16 @@ pub fn jobs(kind: u8) -> Vec<Vec<u8>> {
     }
     assert!(!jobs.is_empty() && rest.is_empty(), "whole records, some of kind {kind}");
     jobs
+}
+
+/// Every recorded second set, with its job. A set is as long as it says, or as what is there.
+pub fn second_sets() -> Vec<(Vec<u8>, Vec<u8>)> {
+    let parted = |body: Vec<u8>| {
+        let (length, rest) = body.split_first_chunk().expect("a length");
+        let (set, job) = rest.split_at(rest.len().min(u32::from_le_bytes(*length) as usize));
+        (set.to_vec(), job.to_vec())
+    };
+    jobs(PARTNER).into_iter().map(parted).collect()
 }
 
 /// The recorded lines of the lowest rates. They follow the reports, each of which ends with its refusal or its working
