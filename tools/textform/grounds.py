@@ -49,6 +49,10 @@ GROUNDS = {
         "A rate has no minutes after it, or there is no period or more than 32, or one has 0 minutes or more than 1,440.",
         "the periods given to `opening`: rate and minutes in turn",
     ),
+    23: (
+        "The second set is not exactly 20 bytes for each member, or has a number over 4,000,000,000.",
+        "the text of the set: its member lines; encode it again with the text of this chain",
+    ),
 }
 
 

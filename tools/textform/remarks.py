@@ -1,6 +1,6 @@
 """What to say about a text that was read: what `screen` can be expected to refuse, and notes. What looks wrong is in looks_wrong.
 
-The limits are those of the nineteen grounds, worked out again here. Nothing is decided by them: `screen` decides.
+The limits are those of grounds 1 to 18, worked out again here. Nothing is decided by them: `screen` decides.
 """
 
 from decimal import Decimal
