@@ -1,7 +1,7 @@
 #!/usr/bin/env python3
-"""Readable text into the bytes of a job with its chain book (or a book alone), and back.
+"""Readable text into the bytes of a job with its chain book (or a book alone, or a second set of coefficients), and back.
 
-    book.py encode [--book] TEXT OUT
+    book.py encode [--book | --coefficients SET] TEXT OUT
     book.py decode [--job | --book] [--names TEXT] BYTES [OUT]
     book.py explain [NUMBER]
     book.py --help
@@ -18,7 +18,8 @@ from textform.encode import all_bytes
 from textform.files import Failure, Usage, check_replaceable, is_bytes, read_file, read_source, set_aside, write_file, write_new
 from textform.grounds import GROUNDS, explained
 from textform.remarks import grounds
-from textform.said import said_of
+from textform.said import said_of, said_of_set
+from textform.second_set import read_set, set_bytes
 from textform.text import read_text
 from textform.words import Mistake, in_line, placed, shown
 
@@ -67,10 +68,7 @@ def encode_file(source, out, book_alone=False):
 
 
 def write_encoded(source, out, book_alone):
-    try:
-        job, book = read_text(read_source(source))
-    except Mistake as mistake:
-        raise Failure(placed(source, in_line(mistake.line, mistake)))
+    job, book = within(source, read_text, read_source(source))
     if book_alone:
         job = None
     data = all_bytes(job, book)
@@ -80,6 +78,31 @@ def write_encoded(source, out, book_alone):
     if not job and not book_alone:
         what += " (screen asks for a job: its lines are rate to adult)"
     tell(f"{out}: wrote {what}: members {len(book.members)}, feeds {len(book.feeds)}, bytes {len(data):,}")
+
+
+def encode_set(name, source, out):
+    """The bytes of a set for the chain of a text. Nothing tells such bytes from others, so no file is replaced by them."""
+    check_new(out, "set")
+    second = within(name, read_set, read_source(name))
+    job, book = within(source, read_text, read_source(source))
+    data = within(name, set_bytes, second, book)
+    for line in said_of_set(job, book, second) if job else ():
+        tell(line.whole(name))
+    write(write_new, out, data)
+    tell(f"{out}: wrote the set of {second.name}: members {len(book.members)}, bytes {len(data):,}")
+
+
+def within(name, call, *arguments):
+    """What the call answers; a mistake is one in this file."""
+    try:
+        return call(*arguments)
+    except Mistake as mistake:
+        raise Failure(placed(name, in_line(mistake.line, mistake)))
+
+
+def check_new(out, what):
+    if os.path.lexists(out):
+        raise Failure(f"{out}: is there already, so it was left as it was; give the {what} another name")
 
 
 def write(how, out, data):
@@ -109,14 +132,14 @@ def decode_options(words):
         else:
             break
     if len(words) not in (1, 2) or words[0].startswith("--"):
-        raise Usage(f"usage:\n{USAGE}")
+        raise Usage
     return form, names, words[0], (words + [None])[1]
 
 
 def decode_file(words):
     form, names, source, out = decode_options(words)
-    if out is not None and os.path.lexists(out):
-        raise Failure(f"{out}: is there already, so it was left as it was; give the text another name")
+    if out is not None:
+        check_new(out, "text")
     data = read_file(source)
     if data and not is_bytes(data):
         raise Failure(f"{source}: is no job and no book: it has no zero byte, so it may be a text already")
@@ -141,21 +164,26 @@ def explain(words):
 def run(words):
     if words in (["--help"], ["-h"], ["help"]):
         put(read_source(MANUAL))
-    elif words[:1] == ["encode"] and len(words) == 3:
-        encode_file(words[1], words[2])
     elif words[:2] == ["encode", "--book"] and len(words) == 4:
         encode_file(words[2], words[3], book_alone=True)
+    elif words[:2] == ["encode", "--coefficients"] and len(words) == 5:
+        encode_set(*words[2:])
+    elif words[:1] == ["encode"] and len(words) == 3 and not words[1].startswith("--"):
+        encode_file(words[1], words[2])
     elif words[:1] == ["decode"] and len(words) > 1:
         decode_file(words[1:])
     elif words[:1] == ["explain"] and len(words) < 3:
         explain(words[1:])
     else:
-        raise Usage(f"usage:\n{USAGE}")
+        raise Usage
 
 
 def main():
     try:
         run(sys.argv[1:])
+    except Usage as wrong:
+        tell(f"usage:\n{USAGE}")
+        sys.exit(wrong.status)
     except Failure as failure:
         tell(failure)
         sys.exit(failure.status)

@@ -16,6 +16,7 @@ from fractions import Fraction
 import test_command
 import test_files
 import test_messages
+import test_second_set
 import test_shares
 import test_target
 from samples import ALONE, RADON, accounted, changed, foreseen, mistake_of, noted, warned
@@ -25,6 +26,7 @@ from textform.decode import decode, group_lines
 from textform.encode import encode
 from textform.half_life import NANOSECONDS, half_life
 from textform.hours import hours_text, quarters_of
+from textform.second_set import read_set, set_bytes
 from textform.text import EXPOSURES, KINDS, LARGER_UNITS, LINE_WORDS, MEDIA, UNITS, Group, Text, groups_of, read_text
 from textform.words import Mistake, number_of, reading, reading_text
 
@@ -386,12 +388,14 @@ def test_grounds_foreseen():
 
 
 def test_manual():
-    """The manual says every word, and its example can be encoded."""
+    """The manual says every word, and its examples can be encoded."""
     manual = (HERE / "MANUAL.md").read_text(encoding="ascii")
     for word in (*LINE_WORDS, *COEFFICIENTS, *KINDS, *MEDIA, *UNITS, *LARGER_UNITS, *EXPOSURES, *NANOSECONDS):
         assert re.search(rf"(?<!\w){word}(?!\w)", manual), word
     example = manual[manual.index("    # A home") : manual.index("One line for each")]
     assert foreseen(example) == warned(example) == noted(example) == []
+    example_set = manual[manual.index("    set Sample") : manual.index("It has one line `set`")]
+    assert len(set_bytes(read_set(example_set), read_text(example)[1])) == 2 * 20
 
 
 def check_cases(jobs):
@@ -411,7 +415,7 @@ def check_cases(jobs):
 
 
 def main():
-    others = (test_shares, test_messages, test_target, test_looks_wrong, test_readings, test_command, test_files)
+    others = (test_shares, test_messages, test_second_set, test_target, test_looks_wrong, test_readings, test_command, test_files)
     count = run_tests(globals()) + sum(run_tests(vars(file)) for file in others)
     check_cases([job for job, _ in recorded.read_cases(recorded.JOB)])
     say_passed(count + 1)

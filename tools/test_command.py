@@ -2,11 +2,14 @@
 
 import os
 import pathlib
+import re
 import subprocess
 import sys
 import tempfile
 
 from textform.grounds import GROUNDS
+from textform.second_set import read_set, set_bytes
+from textform.text import read_text
 
 HERE = pathlib.Path(__file__).resolve().parent
 BOOK = HERE / "book.py"
@@ -54,6 +57,33 @@ def test_book_alone(folder):
         assert status == 0 and "wrote a book alone" in said and ("screen asks" in said) == (words == []), said
         assert (folder / "radon.book").read_bytes() == RADON.with_suffix(".book").read_bytes()
     assert run("encode", "--job", RADON, folder / "other")[0] == 2
+
+
+@folder_test
+def test_set(folder):
+    """The bytes of a set, in the order of the chain, into a new file; what looks wrong is told, and mistakes have their file."""
+    second, out = folder / "partner.txt", folder / "partner.set"
+    lines = [line for line in RADON.read_text().splitlines() if line.startswith("member")]
+    numbers = "\n".join(re.sub("half-life [^ ]+ +", "", line) for line in reversed(lines))
+    text = f"set A list\n{numbers}\n"
+    second.write_text(text)
+    book = RADON.with_suffix(".book").read_bytes()
+    own = b"".join(book[8 + 32 * i + 8 :][:20] for i in range(8))
+    said = f"{out}: wrote the set of A list: members 8, bytes 160\n"
+    assert run("encode", "--coefficients", second, RADON, out) == (0, "", said)
+    assert out.read_bytes() == own == set_bytes(read_set(text), read_text(RADON.read_text())[1])
+    again = run("encode", "--coefficients", second, RADON, out)
+    assert again == (1, "", f"{out}: is there already, so it was left as it was; give the set another name\n")
+    out.unlink()
+    second.write_text(re.sub("inhalation-risk [^ ]+", "inhalation-risk 0", text))
+    zero = "warning: kind risk: every inhalation-risk is 0, so what is breathed does not count"
+    assert run("encode", "--coefficients", second, RADON, out) == (0, "", f"{second}: {zero}\n{said}")
+    out.unlink()
+    for words, wrong in (((RADON, second), f"{RADON}, line 3: this looks like a room's text"),
+                         ((second, second), f"{second}, line 1: this looks like a set of coefficients"),
+                         ((second, RADON.with_name("thoron.txt")), f"{second}, line 2: member Tl-210: the room's chain has no")):
+        status, _, said = run("encode", "--coefficients", *words, out)
+        assert status == 1 and said.startswith(wrong) and not out.exists(), said
 
 
 def test_to_standard_output():
@@ -129,6 +159,7 @@ def test_explain():
 def test_help():
     for word in ("--help", "-h", "help"):
         assert run(word)[:2] == (0, (HERE / "MANUAL.md").read_text(encoding="ascii"))
-    for words in ("", "encode", "encode x", "decode", "decode --names x", "decode --job --job x", "explain 1 2"):
+    for words in ("", "encode", "encode x", "encode --book x", "encode --coefficients x", "encode --coefficients x y",
+                  "encode --coefficients x y z --book", "decode", "decode --names x", "decode --job --job x", "explain 1 2"):
         status, _, said = run(*words.split())
-        assert status == 2 and "book.py encode [--book] TEXT OUT" in said
+        assert status == 2 and "book.py encode [--book | --coefficients SET] TEXT OUT" in said, words

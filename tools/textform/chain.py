@@ -45,13 +45,20 @@ class Book(NamedTuple):
 
 def member_of(words, line):
     """A member line: a name, if any, then pairs of a word and its number."""
-    known = ["half-life", *COEFFICIENTS]
+    name, given = pairs_of(words, ["half-life", *COEFFICIENTS], line)
+    if "half-life" not in given:
+        raise Mistake(f"member {name or ''}: needs a half-life, {FORM}".replace(" :", ":"), line)
+    return Member(name, given.pop("half-life"), given, line)
+
+
+def pairs_of(words, known, line):
+    """The name, if any, and the number of each of the known words that is given."""
     name, pairs = (None, words) if not words or words[0] in known else (words[0], words[1:])
     if name is not None and not NAME.match(name):
         raise Mistake(f"member {shown(name)}: a name is a letter, then letters, digits and '-', at most 40 in all", line)
     for word in pairs[::2]:
         if word not in known:
-            raise Mistake(not_a_pair(word, name, pairs), line)
+            raise Mistake(not_a_pair(word, name, pairs, known), line)
     given = {}
     for word, number in zip(pairs[::2], pairs[1::2] + [None]):
         if word in given:
@@ -59,12 +66,10 @@ def member_of(words, line):
         if number is None:
             raise Mistake(f"{word}: no number stands after it", line)
         given[word] = half_life(number, line) if word == "half-life" else whole(number, 4, word, COEFFICIENTS[word], line)
-    if "half-life" not in given:
-        raise Mistake(f"member {name or ''}: needs a half-life, {FORM}".replace(" :", ":"), line)
-    return Member(name, given.pop("half-life"), given, line)
+    return name, given
 
 
-def not_a_pair(word, name, pairs):
+def not_a_pair(word, name, pairs, known):
     """What to say of a word that stands where one of the member's words should."""
     before = pairs[: pairs.index(word)]
     spaced = spaced_name([name or "", word])
@@ -73,7 +78,7 @@ def not_a_pair(word, name, pairs):
     if before[-2:-1] == ["half-life"] and not before[-1][-1].isalpha():
         form = f"without a space, so {shown(before[-1])}{word}" if word in NANOSECONDS else FORM
         return f"half-life {shown(before[-1])} {shown(word)}: {form}"
-    return f"a member has half-life, {', '.join(COEFFICIENTS)}, each with its number, and no {shown(word)}"
+    return f"a member has {', '.join(known)}, each with its number, and no {shown(word)}"
 
 
 # ---- The book -----------------------------------------------------------------------------------

@@ -1,9 +1,11 @@
-"""All that there is to say of a job and a book that were read, each with its kind: warnings, what is to be refused, notes."""
+"""All that there is to say of a job and a book that were read, each with its kind: warnings, what is to be refused, notes. And
+what there is to say of a second set for them."""
 
 from typing import NamedTuple
 
-from .looks_wrong import warnings
+from .looks_wrong import nothing_inhaled, warnings
 from .remarks import grounds, notes
+from .second_set import with_set
 from .words import in_line, placed
 
 
@@ -25,6 +27,11 @@ def said_of(job, book):
     found = [Line("warning", remark.line, remark.said) for remark in warnings(job, book)]
     found += [Line("to be refused", each.line, f"{each.said} (ground {each.ground})") for each in grounds(job, book)]
     return found + [Line("note", remark.line, remark.said) for remark in notes(job, book)]
+
+
+def said_of_set(job, book, second):
+    """What looks wrong in a set for this job. The line of the kind is no line of the set's text."""
+    return without_lines(Line("warning", remark.line, remark.said) for remark in nothing_inhaled(job, with_set(second, book)))
 
 
 def without_lines(found):

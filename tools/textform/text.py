@@ -16,6 +16,8 @@ GROUPS = ("child", "adult")
 JOB_WORDS = ("rate", "kind", "medium", "unit", "target", "attenuation", "value", "uncertainty", *GROUPS)
 ROOM_WORDS = JOB_WORDS + ("exposure",)
 LINE_WORDS = ROOM_WORDS + ("divisor", "member", "feed", "ends", "surplus")
+SET = "set"  # a line of the other form of text
+ROOM_TEXT, SET_TEXT = "a room's text", "a set of coefficients"
 
 
 class Group(NamedTuple):
@@ -61,15 +63,34 @@ def words_of(line):
     return line.split("#")[0].split()
 
 
+def lines_said(source):
+    """Each line that says something: its first word, its other words, and its number."""
+    for line, raw in enumerate(lines_of(source), 1):
+        words = words_of(raw)
+        if words:
+            yield words[0], words[1:], line
+
+
+def check_not_exchanged(lines, wanted):
+    """One of the two forms of text in the place of the other. Both have member lines."""
+    found = {
+        ROOM_TEXT: [line for word, _, line in lines if word in LINE_WORDS and word != "member"],
+        SET_TEXT: [line for word, _, line in lines if word == SET],
+    }
+    other = SET_TEXT if wanted == ROOM_TEXT else ROOM_TEXT
+    if found[other] and not found[wanted]:
+        raise Mistake(f"this looks like {other}, and not like {wanted}", found[other][0])
+
+
 class Text:
     """The fields, members, feeds and other shares that the lines of a text say."""
 
     def __init__(self, source):
         self.fields, self.members, self.feeds, self.rests = {}, [], [], []
-        for line, raw in enumerate(lines_of(source), 1):
-            words = words_of(raw)
-            if words:
-                self.take(words[0], words[1:], line)
+        lines = list(lines_said(source))
+        check_not_exchanged(lines, ROOM_TEXT)
+        for word, rest, line in lines:
+            self.take(word, rest, line)
 
     def take(self, word, rest, line):
         if word not in LINE_WORDS:
