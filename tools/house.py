@@ -16,7 +16,7 @@ from command import building, crates
 
 ROOT = pathlib.Path(__file__).resolve().parents[1]
 EXAMPLES = ROOT / "examples"
-PROGRAMS = ("screen", "fan", "table", "opening")
+PROGRAMS = ("screen", "fan", "partner", "table", "opening")
 LONG_AGO = 10**9  # seconds; when the sources of the copy were changed
 
 STAND_IN = f"""#!{sys.executable}
@@ -52,7 +52,7 @@ class House:
     def put_program(self, name, script=None):
         """The program, or a script of a test in its place."""
         path = self.program(name)
-        path.parent.mkdir(exist_ok=True)
+        path.parent.mkdir(parents=True, exist_ok=True)
         if script is None and not building.is_late(name):
             shutil.copyfile(building.path_of(name), path)
         else:

@@ -1,9 +1,10 @@
 """What the programs write, as the reference has it, for the tests where the programs are not built.
 
-Each takes the words after the program's name: `screen` and `fan` none, with the job on standard input, the others the
-file of a book and then numbers.
+Each takes the words after the program's name: `screen` and `fan` none, with the job on standard input, `partner` the file of a
+second set, with the job there too or in another file, the others the file of a book and then numbers.
 """
 
+import struct
 import sys
 
 import reference
@@ -17,23 +18,54 @@ def fan(_words):
     return reference.fan_answer(sys.stdin.buffer.read())
 
 
+JOB, HEAD, MEMBER, HALF_LIFE, NUMBERS = 48, 8, 32, 8, 20  # bytes of each
+
+
+def with_second(job, second):
+    """The job with the second set written over its book's own numbers."""
+    data = bytearray(job)
+    for i in range(len(second) // NUMBERS):
+        at = JOB + HEAD + MEMBER * i + HALF_LIFE
+        data[at : at + NUMBERS] = second[NUMBERS * i :][:NUMBERS]
+    return bytes(data)
+
+
+def partner_answer(second, job):
+    """The job is looked at first, its own numbers too, and the set only if the job is well."""
+    own = reference.answer(job)
+    if own.startswith("refused"):
+        return own
+    if len(second) != NUMBERS * job[JOB] or max(struct.unpack(f"<{len(second) // 4}I", second)) > reference.MOST:
+        return "refused 23\n"
+    used = with_second(job, second)
+    return "set 2\n" + reference.answer(used) + reference.fan_answer(used)
+
+
+def partner(words):
+    name, *job = words
+    second = bytes_in(name)
+    if not second:
+        sys.exit("partner: the set is empty")
+    return partner_answer(second, bytes_in(*job) if job else sys.stdin.buffer.read())
+
+
 def numbers(words):
     return [int(word) for word in words]
 
 
-def book_in(name):
+def bytes_in(name):
     with open(name, "rb") as file:
         return file.read()
 
 
 def table(words):
-    said = reference.table_call(numbers(words[1:]), book_in(words[0]), 10**6)
+    said = reference.table_call(numbers(words[1:]), bytes_in(words[0]), 10**6)
     return said if isinstance(said, str) else f"refused {said}\n"
 
 
 def opening(words):
     name, *words = words
-    book, every = book_in(name), None
+    book, every = bytes_in(name), None
     if words[-2:-1] == ["every"]:
         *words, _, every = words
     periods = numbers(words)

@@ -1,6 +1,6 @@
 """The level as the meter would show it: the highest reading, without uncertainty, whose concentration indoors is no higher.
 
-`screen` rounds a reading up on its way into the room's air, so this goes back the same way and rounds down. What comes
+The programs round a reading up on its way into the room's air, so this goes back the same way and rounds down. What comes
 out is screened itself before it is shown.
 """
 
@@ -52,10 +52,11 @@ def with_reading(number, places, data, size=1):
     return data[:VALUE_AT] + struct.pack("<QQ", bits, 0) + data[VALUE_AT + 16 :]
 
 
-def level_on_meter(level, job, data, size):
-    """The reading in digits. `screen` has the last word on it."""
+def level_on_meter(level, job, data, size, second=None):
+    """The reading in digits. The proved program that the level is of has the last word on it."""
     number, places = highest_reading(level, job, size)
-    at = screened(with_reading(number, places, data, size))
+    at = screened(with_reading(number, places, data, size), second)
     if at.verdict != "below" or at.concentration > level:
-        raise Failure("the level in the meter's unit: screen does not agree with it, so nothing is shown")
+        program = "screen" if second is None else "partner"
+        raise Failure(f"the level in the meter's unit: {program} does not agree with it, so nothing is shown")
     return decimal(number, places)

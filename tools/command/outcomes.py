@@ -4,7 +4,7 @@ from typing import NamedTuple
 
 from textform.words import Mistake, in_line, placed
 
-from .programs import Refused, asked, matched
+from .programs import Refused, matched
 from .tool import Failure, put, tell
 from .verdicts import ground_in_words
 
@@ -26,14 +26,22 @@ def outcome_of(name, answer):
         return Outcome("unanswered", "", str(failure))
 
 
-def lines_outcome(program, form, given, *words):
-    """The lines of a proved program as it writes them; of a refusal there are words besides."""
-    text = asked(program, given.data, *words)
+def lines_outcome(given, text, kind_of):
+    """The lines of a proved program as it writes them, if they are an answer; of a refusal there are words besides."""
     try:
-        matched(program, form, text)
+        return Outcome(kind_of(text), text, "", given.remarks)
     except Refused as refused:
         return Outcome("refused", text, ground_in_words(refused.ground), given.remarks)
-    return Outcome("answered", text, "", given.remarks)
+
+
+def answered(program, form):
+    """The kind of the program's lines where they have this form."""
+
+    def kind_of(text):
+        matched(program, form, text)
+        return "answered"
+
+    return kind_of
 
 
 def show_lines(name, outcome, is_one_of_several):

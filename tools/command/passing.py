@@ -9,8 +9,8 @@ import book as tool
 
 from .building import make_ready
 from .given import book_given, job_given
-from .outcomes import lines_outcome, outcome_of, show_lines
-from .programs import RATE
+from .outcomes import answered, lines_outcome, outcome_of, show_lines
+from .programs import RATE, asked
 from .tool import CLEARED, FAILED, Usage, check_files
 
 STANDARD_INPUT = "/dev/stdin"
@@ -34,7 +34,8 @@ def fan(names):
     make_ready(["fan"])
 
     def answer(name):
-        return lines_outcome("fan", RATE, job_given(name))
+        given = job_given(name)
+        return lines_outcome(given, asked("fan", given.data), answered("fan", RATE))
 
     return status_of([show_lines(name, outcome_of(name, answer), len(names) > 1) for name in names])
 
@@ -49,7 +50,8 @@ def of_book(program, form, fewest):
         make_ready([program])
 
         def answer(name):
-            return lines_outcome(program, form, book_given(name), STANDARD_INPUT, *words[1:])
+            given = book_given(name)
+            return lines_outcome(given, asked(program, given.data, STANDARD_INPUT, *words[1:]), answered(program, form))
 
         return status_of([show_lines(words[0], outcome_of(words[0], answer), False)])
 

@@ -1,5 +1,6 @@
 """The proved programs' answers. What is not wholly an answer is a failure, and never taken for one."""
 
+import os
 import re
 import subprocess
 from typing import NamedTuple, Optional
@@ -16,7 +17,9 @@ REPORT = re.compile(
     r"equilibrium (?P<equilibrium>none|\d+)\n"
     r"working (?P<working>none|\d+)\n"
 )
-RATE = re.compile(r"rate (none|\d+)\n")
+RATE = re.compile(r"rate (?P<rate>none|\d+)\n")
+PARTNER = re.compile(rf"set (?P<set>[12])\n{REPORT.pattern}{RATE.pattern}")
+SECOND = "2"  # the number of a set that was lent
 REFUSED = re.compile(r"refused (\d+)\n")
 
 
@@ -38,10 +41,11 @@ class Report(NamedTuple):
     working: Optional[int]  # micro working levels
 
 
-def asked(name, data, *words):
-    """The lines that a program writes for what it is given."""
+def asked(name, data, *words, lent=()):
+    """The lines that a program writes for what it is given; besides its input it has the open files that are lent it."""
+    command = [path_of(name), *words]
     try:
-        done = subprocess.run([path_of(name), *words], input=data, capture_output=True, timeout=LONGEST, check=False)
+        done = subprocess.run(command, input=data, capture_output=True, timeout=LONGEST, check=False, pass_fds=lent)
     except OSError as error:
         raise Failure(f"{name}: no answer: {error.strerror or error}")
     except subprocess.TimeoutExpired:
@@ -66,25 +70,53 @@ def number(word):
     return None if word == "none" else int(word)
 
 
-def report_of(text):
-    parts = matched("screen", REPORT, text)
+def report_in(parts):
     counts = (number(parts[word]) for word in ("level", "equilibrium", "working"))
     return Report(int(parts["concentration"]), parts["verdict"], *counts)
 
 
-def screened(data):
-    """The report on a job."""
-    return report_of(asked("screen", data))
+def report_of(text):
+    return report_in(matched("screen", REPORT, text))
 
 
-def judged(data):
-    """The report on a job, and the lowest rate at which it is 'below', in hundredths per hour, or None.
+# ---- By a second set of coefficients ------------------------------------------------------------
 
-    The two are proved to agree. Programs that do not are no programs of one source, and neither is believed.
-    """
-    report = screened(data)
-    lowest = number(matched("fan", RATE, asked("fan", data))[1])
+
+def partner_lines(data, second):
+    """What `partner` writes of a job by a set. It takes the set as a file: one in memory, so that none is left behind."""
+    with open(os.memfd_create("set"), "wb") as file:
+        file.write(second)
+        file.flush()
+        return asked("partner", data, f"/dev/fd/{file.fileno()}", lent=[file.fileno()])
+
+
+def by_second_set(text, data):
+    """The report and the lowest rate in `partner`'s lines on a job, which must be by the set that was lent it."""
+    parts = matched("partner", PARTNER, text)
+    if parts["set"] != SECOND:
+        raise Failure(f"partner: its answer is by set {parts['set']}, and not by the one that was lent it, so it is not shown")
+    return agreed(data, report_in(parts), number(parts["rate"]), "partner", "its lowest rate")
+
+
+# ---- A room -------------------------------------------------------------------------------------
+
+
+def screened(data, second=None):
+    """The report on a job, by the room's own coefficients or by a second set of them."""
+    return report_of(asked("screen", data)) if second is None else judged(data, second)[0]
+
+
+def judged(data, second=None):
+    """The report on a job, and the lowest rate at which it is 'below', in hundredths per hour, or None."""
+    if second is not None:
+        return by_second_set(partner_lines(data, second), data)
+    lowest = number(matched("fan", RATE, asked("fan", data))["rate"])
+    return agreed(data, screened(data), lowest, "screen", "fan")
+
+
+def agreed(data, report, lowest, who, other):
+    """The two, which are proved to agree. Programs that do not are no programs of one source, and neither is believed."""
     rate = int.from_bytes(data[:4], "little")
     if (report.verdict == "below") != (lowest is not None and lowest <= rate):
-        raise Failure(f"screen says {report.verdict!r} at rate {rate}, and fan does not agree, so there is no answer")
+        raise Failure(f"{who} says {report.verdict!r} at rate {rate}, and {other} does not agree, so there is no answer")
     return report, lowest

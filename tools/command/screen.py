@@ -5,7 +5,7 @@ from .building import make_ready
 from .given import job_given
 from .layout import rows
 from .outcomes import Outcome, lines_outcome, outcome_of, show_lines
-from .programs import REPORT, Refused, judged, report_of
+from .programs import Refused, asked, judged, report_of
 from .tool import Failure, check_files, put
 from .verdicts import status, tally
 
@@ -38,8 +38,8 @@ def show_words(name, outcome, is_one_of_several):
 
 def report_alone(name):
     """The lines of the proved program."""
-    outcome = lines_outcome("screen", REPORT, job_given(name))
-    return outcome if outcome.kind == "refused" else outcome._replace(kind=report_of(outcome.text).verdict)
+    given = job_given(name)
+    return lines_outcome(given, asked("screen", given.data), lambda text: report_of(text).verdict)
 
 
 def answer_in_words(name):
