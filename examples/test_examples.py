@@ -1,6 +1,7 @@
 #!/usr/bin/env python3
 """Each example's text turns into its bytes and back, and its stored output is what the reference says of it: the report
-of its job and, of the three gases, the table of its book at the rates of source 000's radon table.
+of its job and, of the three gases, the table of its book at the rates of source 000's radon table. So does the second set of
+coefficients, and its output is what the reference says of the workroom with the set's numbers in its book.
 
 Where the programs are built, they are run too: on each example by its name and from standard input, and on what they
 cannot read.
@@ -16,9 +17,11 @@ BOOK = HERE.parent / "tools" / "book.py"
 SOURCES = HERE.parent / "docs" / "src"
 REFERENCE = SOURCES / "reference.py"
 GASES = ("radon", "thoron", "actinon")
+SET = HERE / "partner.txt"
 
-sys.path.insert(0, str(SOURCES))
+sys.path[:0] = [str(SOURCES), str(BOOK.parent)]
 import reference
+from stand_ins import partner_answer
 from tally import say_passed
 
 
@@ -57,6 +60,16 @@ def check_table(text):
     rates = [reference.Fraction(rate) * 100 for rate in column]
     assert len(rates) == 74 and rates_of(table) == rates, text.name
     assert reference.table_call(rates_of(table), book.read_bytes(), len(table)) == table, text.name
+
+
+def check_set():
+    """The stored bytes are the text's, for both rooms with its chain, and the stored output is for the workroom."""
+    second = SET.with_suffix(".set").read_bytes()
+    for room in ("radon", "workroom"):
+        assert encoded(HERE / f"{room}.txt", "--coefficients", SET) == second, room
+    said = partner_answer(second, (HERE / "workroom.job").read_bytes())
+    assert said == SET.with_suffix(".out").read_text() and "verdict below\n" in said
+    assert "verdict above\n" in (HERE / "workroom.out").read_text()  # by its own
 
 
 def program(name):
@@ -126,6 +139,38 @@ def check_screen():
 
 def check_fan():
     check_jobs("fan", reference.fan_answer)
+
+
+def check_partner():
+    """Each job with the example's set: by two files' names, and with the job from standard input. Then sets that are not in order,
+    and what is no set or no job."""
+    second = SET.with_suffix(".set")
+    for job in sorted(HERE.glob("*.job")):
+        for data in (job.read_bytes(), job.read_bytes() + bytes(5_000), job.read_bytes()[:-1]):
+            assert output("partner", second, given=data) == answered(partner_answer(second.read_bytes(), data)), newest("partner")
+        assert output("partner", second, job) == answered(partner_answer(second.read_bytes(), job.read_bytes())), job.name
+    assert output("partner", second) == answered("refused 1\n")
+    with tempfile.TemporaryDirectory() as folder:
+        check_sets(second.read_bytes(), HERE / "workroom.job", pathlib.Path(folder) / "set")
+    none, job = HERE / "none", HERE / "workroom.job"
+    for words in ((none, job), (second, none), (HERE, job), (), (second, job, job)):
+        out, said, status = output("partner", *words)
+        assert (out, status) == (b"", 1) and said, words
+
+
+def check_sets(good, job, path):
+    """One byte either way, the limit and one more at both ends, the book's own numbers, zeros, and no byte."""
+    most, over = (number.to_bytes(4, "little") for number in (reference.MOST, reference.MOST + 1))
+    own = b"".join(job.read_bytes()[48 + 8 + 32 * i + 8 :][:20] for i in range(8))
+    for data in (good[:-1], good + b"\0", good + bytes(5_000), good[:20], b"\0", most + good[4:], good[:-4] + most, over + good[4:],
+                 good[:-4] + over, own, bytes(160)):
+        path.write_bytes(data)
+        assert output("partner", path, job) == answered(partner_answer(data, job.read_bytes())), (data, newest("partner"))
+        assert output("partner", path, given=b"") == answered("refused 1\n")
+    assert partner_answer(own, job.read_bytes())[6:] == job.with_suffix(".out").read_text() + reference.fan_answer(job.read_bytes())
+    path.write_bytes(b"")
+    out, said, status = output("partner", path, job)
+    assert (out, status) == (b"", 1) and said
 
 
 def tabled(*words):
@@ -201,7 +246,7 @@ def check_opening_refusals(radon):
     check_text("opening", 0, 5)
 
 
-CHECKS = {"opening": check_opening, "table": check_table_program, "fan": check_fan, "screen": check_screen}
+CHECKS = {"opening": check_opening, "table": check_table_program, "fan": check_fan, "screen": check_screen, "partner": check_partner}
 
 
 def check_programs():
@@ -217,14 +262,15 @@ def check_programs():
 
 
 def main():
-    texts = sorted(HERE.glob("*.txt"))
+    texts = sorted(text for text in HERE.glob("*.txt") if text != SET)
     assert len(texts) == 6
     for text in texts:
         check(text)
     for gas in GASES:
         check_table(HERE / f"{gas}.txt")
-    print(f"{len(texts)} examples agree, and {len(GASES)} tables")
-    say_passed(len(texts) + len(GASES) + check_programs())
+    check_set()
+    print(f"{len(texts)} examples agree, {len(GASES)} tables and a set")
+    say_passed(len(texts) + len(GASES) + 1 + check_programs())
 
 
 if __name__ == "__main__":

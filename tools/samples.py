@@ -10,6 +10,7 @@ from textform.text import Text, read_text
 from textform.words import Mistake
 
 EXAMPLES = pathlib.Path(__file__).resolve().parents[1] / "examples"
+ROOMS = sorted(path for path in EXAMPLES.glob("*.txt") if path.stem != "partner")  # that one is a set of coefficients
 RADON = """\
 rate 18
 kind risk            # a comment

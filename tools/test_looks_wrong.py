@@ -1,7 +1,7 @@
 """Each warning on both sides of its limit, and that none of them is a ground or a note."""
 
 import reference
-from samples import EXAMPLES, RADON, accounted, changed, example, foreseen, noted, warned
+from samples import RADON, ROOMS, accounted, changed, example, foreseen, noted, warned
 from textform.encode import encode
 from textform.source_000 import PRINTED, printed_half_life
 from textform.text import read_text
@@ -119,7 +119,7 @@ def test_source_half_lives():
 
 def test_examples():
     """The two examples that are warned of say so; the others are not."""
-    for path in sorted(EXAMPLES.glob("*.txt")):
+    for path in ROOMS:
         expected = {"guide": ["line 15: Rn-222 stands alone: no daughter is counted"],
                     "workroom": ["line 7: target 4 in 1_000: more than 1 in 1_000"]}
         assert warned(path.read_text(encoding="utf-8")) == expected.get(path.stem, []), path.stem

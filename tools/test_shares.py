@@ -1,11 +1,11 @@
 """The shares out of each member: none goes unsaid, and the bytes are what they would be without the lines that say so."""
 
-from samples import EXAMPLES, RADON, accounted, changed, example, foreseen, mistake_of, noted
+from samples import EXAMPLES, RADON, ROOMS, accounted, changed, example, foreseen, mistake_of, noted
 from textform.decode import decode
 from textform.encode import encode
 
 
-NAMES = [path.stem for path in EXAMPLES.glob("*.txt")]
+NAMES = [path.stem for path in ROOMS]
 NEXT = "look at its feed lines; shares that nothing in the chain follows are 'ends {} from {}'"
 
 

@@ -1,6 +1,6 @@
 """A target with its unit: exactly what it says, and only for its kind."""
 
-from samples import EXAMPLES, RADON, changed, mistake_of
+from samples import RADON, ROOMS, changed, mistake_of
 from textform.decode import decode
 from textform.encode import encode
 from textform.target import target_of, target_text
@@ -59,6 +59,6 @@ def test_comes_back():
 
 def test_examples():
     """Every example's target carries its unit."""
-    for path in EXAMPLES.glob("*.txt"):
+    for path in ROOMS:
         (line,) = [line.split("#")[0] for line in path.read_text(encoding="utf-8").splitlines() if line.startswith("target")]
         assert " in " in line or " mrem" in line, path.stem
