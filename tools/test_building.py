@@ -5,6 +5,7 @@ import sys
 
 from command import crates
 from house import ROOT, house_test
+from test_coefficients import mild, set_of
 
 WORKROOM = "examples/workroom.txt"
 PROVER = f"""#!{sys.executable}
@@ -26,7 +27,7 @@ def put_prover(home):
     (home.folder / "bin").mkdir()
     (home.folder / "bin" / "rt").write_text(PROVER)
     (home.folder / "bin" / "rt").chmod(0o755)
-    for name in ("screen", "fan"):
+    for name in ("screen", "fan", "partner"):
         home.program(name).rename(home.folder / "crates" / name / "made")
     return home.folder / "bin"
 
@@ -53,6 +54,22 @@ def test_first_run(home):
     assert "".join(f"    {line}\n" for line in said.splitlines()[:2]) in manual
     assert asked(home) == [f"{crate} lib" for crate in needed[:-2]] + ["screen run --", "fan run --"]
     assert home.run("screen", WORKROOM, path=path) == (1, out, "") and asked(home) == []
+
+
+@house_test
+def test_partner(home):
+    """A second set asks for `partner` alone, and with --both for all three; a run of it needs a file that stands for a set."""
+    path = put_prover(home)
+    lent = ("screen", WORKROOM, "--coefficients", home.write("set.txt", set_of("workroom", mild)))
+    assert home.run(*lent, path=path)[0] == 0
+    assert asked(home)[-1].startswith("partner run -- /") and not home.program("screen").exists()
+    assert home.run(*lent, path=path)[0] == 0 and asked(home) == []
+    assert home.run(*lent, "--both", path=path)[0] == 1
+    assert [line for line in asked(home) if " run" in line] == ["screen run --", "fan run --"]
+    home.write("wrong.txt", "set A\nmumble\n")
+    home.program("partner").unlink()
+    status, _, said = home.run(*lent[:-1], "wrong.txt", path=path)
+    assert status == 2 and said.startswith("wrong.txt, line 2: ") and asked(home) == []  # before anything is built
 
 
 def test_order():

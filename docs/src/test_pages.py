@@ -23,7 +23,7 @@ sys.path.insert(0, str(ROOT / "tools"))
 
 from command.building import is_late  # noqa: E402
 
-PAGES = ("README.md", *(f"docs/{name}.md" for name in ("COMMAND", "ROOMS", "TEXT", "FAN", "TABLE", "OPENING", "REFUSALS")))
+PAGES = ("README.md", *(f"docs/{name}.md" for name in ("COMMAND", "ROOMS", "TEXT", "FAN", "TABLE", "OPENING", "COEFFICIENTS", "REFUSALS")))
 INDENT = "    "
 COMMAND = INDENT + "$ "
 PROGRAMS = ("screen", "fan", "table", "opening")
@@ -49,8 +49,10 @@ def is_written(line, after):
 
 
 def programs_in(command):
-    """The built programs that a command needs; the one command may ask any of them."""
-    return PROGRAMS if "./jelmorand" in command else re.findall(r"crates/(\w+)/out/", command)
+    """The built programs that a command needs; the one command may ask any of them, and `partner` for a second set alone."""
+    if "./jelmorand" in command:
+        return (*PROGRAMS, "partner") if "--coefficients" in command else PROGRAMS
+    return re.findall(r"crates/(\w+)/out/", command)
 
 
 def is_ready(command):

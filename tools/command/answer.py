@@ -10,16 +10,7 @@ from .verdicts import AT_ITS_LARGEST, ground_in_words, meaning
 
 def answer_rows(given, report, rate):
     """The answer to an accepted job. The programs' word on it comes after what was read."""
-    job, book = given.read
-    return [
-        *read_rows(given),
-        ("verdict", meaning(report.verdict, job.kind)),
-        ("concentration", f"{report.concentration:,} mBq/m³ indoors, rounded up"),
-        *level_rows(given, report),
-        ("lowest rate", rate_words(rate)),
-        ("equilibrium", "none" if report.equilibrium is None else f"factor {decimal(report.equilibrium, 6)}"),
-        ("working level", "none" if report.working is None else decimal(report.working, 6)),
-    ]
+    return [*read_rows(given), *largest_rows(report), *judged_rows(given, report, rate)]
 
 
 def read_rows(given):
@@ -27,14 +18,34 @@ def read_rows(given):
     return rows + [(remark.kind, remark.placed()) for remark in given.remarks]
 
 
-def level_rows(given, report):
+def largest_rows(report, whose=""):
+    if report.level == MOST:
+        yield "warning", f"{whose}{AT_ITS_LARGEST}"
+
+
+def judged_rows(given, report, rate, second=None):
+    """What the programs say, by the room's own coefficients or by a second set of them."""
+    verdict, *figures = compared_rows(given, report, rate, second)
+    return [verdict, concentration_row(report), *figures]
+
+
+def compared_rows(given, report, rate, second=None):
+    """What another set of coefficients may change: all but the concentration."""
     job = given.read[0]
     unit, size = meter_unit(job, given.said)
-    reading = level_on_meter(report.level, job, given.data, size)
-    yield "level", f"{report.level:,} mBq/m³ indoors, the highest concentration that is 'below'"
-    yield "level", f"{reading} {unit} on the meter{in_medium(job)}, without uncertainty, rounded down"
-    if report.level == MOST:
-        yield "warning", AT_ITS_LARGEST
+    reading = level_on_meter(report.level, job, given.data, size, second)
+    return [
+        ("verdict", meaning(report.verdict, job.kind)),
+        ("level", f"{report.level:,} mBq/m³ indoors, the highest concentration that is 'below'"),
+        ("level", f"{reading} {unit} on the meter{in_medium(job)}, without uncertainty, rounded down"),
+        ("lowest rate", rate_words(rate)),
+        ("equilibrium", "none" if report.equilibrium is None else f"factor {decimal(report.equilibrium, 6)}"),
+        ("working level", "none" if report.working is None else decimal(report.working, 6)),
+    ]
+
+
+def concentration_row(report):
+    return "concentration", f"{report.concentration:,} mBq/m³ indoors, rounded up"
 
 
 def in_medium(job):

@@ -14,6 +14,7 @@ from textform.words import Mistake
 from .tool import Failure, read_file
 
 BOOK_ALONE = "is a book alone: a room needs the lines of a job too, rate to adult"
+NO_NAMES = "is a job, whose bytes have no names, so no set of coefficients can be matched to its chain: give the room's text"
 
 
 class Given(NamedTuple):
@@ -45,14 +46,16 @@ def check_no_text(data):
 # ---- A job --------------------------------------------------------------------------------------
 
 
-def job_given(name):
-    """The job in a file: a text's, or the bytes as they are, whatever the programs will say of them."""
+def job_given(name, needs_names=False):
+    """The job in a file: a text's, or the bytes as they are, whatever the programs will say of them. Bytes have no names."""
     data = bytes_in(name)
     if not is_bytes(data):
         return text_given(text_of(data))
     check_no_text(data)
     if is_book(data) and not is_book(data[JOB:]):
         raise Failure(BOOK_ALONE)
+    if needs_names:
+        raise Mistake(NO_NAMES)
     check_text_beside(name, data)
     try:
         read = read_text(decode(data, "job"))

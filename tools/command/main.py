@@ -17,15 +17,15 @@ def tool_form(command):
 
 
 COMMANDS = {  # each with what follows it, and what it is for
-    "screen": (screen, "[--report] FILE..", "the verdict on texts or jobs"),
+    "screen": (screen, "[--report] FILE.. [--coefficients SET [--both]]", "the verdict on texts or jobs"),
     "rooms": (rooms, "[--force] BOOK.txt ROOMS.csv RESULTS.csv", "many rooms of one book"),
     "fan": (fan, "FILE..", "the lowest rate that is 'below'"),
-    "table": (of_book("table", TABLE, 0), "FILE [RATE..]", "the shares in the air at each rate"),
-    "opening": (of_book("opening", FACTORS, 1), "FILE RATE MINUTES.. [every N]", "the shares after periods of airing"),
-    "encode": (to_tool("encode"), tool_form("encode"), "a text into a job or a book"),
+    "table": (of_book("table", TABLE, 0), "FILE [RATE..]", "shares in the air at each rate"),
+    "opening": (of_book("opening", FACTORS, 1), "FILE RATE MINUTES.. [every N]", "shares after periods of airing"),
+    "encode": (to_tool("encode"), tool_form("encode"), "a text into a job, book or set"),
     "decode": (to_tool("decode"), tool_form("decode"), "a job or a book into a text"),
     "explain": (to_tool("explain"), tool_form("explain"), "what 'refused NUMBER' means"),
-    "--help": (None, "", "these lines; more: docs/COMMAND.md"),
+    "--help": (None, "", "these lines; see docs/COMMAND.md"),
 }
 
 
@@ -52,8 +52,9 @@ def run(words):
         raise Failure("a word is empty, where a file's name or a number should stand")
     try:
         return COMMANDS[words[0]][0](words[1:])
-    except Usage:
-        raise Failure(f"usage: {form(words[0])}")
+    except Usage as wrong:
+        why = f" ({wrong})" if str(wrong) else ""
+        raise Failure(f"usage: {form(words[0])}{why}")
 
 
 def main(words):

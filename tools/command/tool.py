@@ -2,7 +2,7 @@
 
 import pathlib
 
-from book import Failure, Usage, put, read_file, tell  # noqa: F401  (for the other modules)
+from book import Failure, Usage, put, read_file, read_source, tell, within  # noqa: F401  (for the other modules)
 
 ROOT = pathlib.Path(__file__).resolve().parents[2]
 

@@ -30,6 +30,22 @@ def ground_in_words(ground):
     return f"ground {ground}: {wrong} Where to look: {look}."
 
 
+def worse(verdicts):
+    return max(verdicts, key=OUTCOMES.index)
+
+
+def both_verdicts(one, other, by_one, by_other):
+    """What two verdicts on one room come to."""
+    if one == other:
+        end = "the room is cleared by both" if one == "below" else "neither clears the room"
+        return "they agree", f"both say {one!r}: {end}"
+    if "below" not in (one, other):
+        return "they differ", f"{one!r} by {by_one}, {other!r} by {by_other}: neither clears the room"
+    clears, not_clears = (by_one, by_other) if one == "below" else (by_other, by_one)
+    only = f"it is cleared only for a reader who goes by {clears}"
+    return "they differ", f"the room is cleared by {clears}, and not by {not_clears}: {only}"
+
+
 def status(outcomes):
     if any(outcome in ("refused", "unanswered") for outcome in outcomes):
         return FAILED
