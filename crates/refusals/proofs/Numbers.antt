@@ -28,6 +28,7 @@ refusal_below_32 Refusal.RateCountOutOfRange = omega arith
 refusal_below_32 Refusal.BufferTooShort = omega arith
 refusal_below_32 Refusal.PeriodsOutOfRange = omega arith
 refusal_below_32 Refusal.SecondSetOutOfRange = omega arith
+refusal_below_32 Refusal.TableNotOfForm = omega arith
 
 pub refusal_above_0 : (refusal : Refusal) → 0 < refusal_number refusal
 refusal_above_0 Refusal.JobTooShort = omega arith
@@ -53,6 +54,7 @@ refusal_above_0 Refusal.RateCountOutOfRange = omega arith
 refusal_above_0 Refusal.BufferTooShort = omega arith
 refusal_above_0 Refusal.PeriodsOutOfRange = omega arith
 refusal_above_0 Refusal.SecondSetOutOfRange = omega arith
+refusal_above_0 Refusal.TableNotOfForm = omega arith
 
 not_negative : (k n : ℕ) → 0 < k → neg_ℤ (pos k) ≡ pos n → ⊥
 not_negative zero n some e = absurd (omega arith)

@@ -27,6 +27,7 @@ refusal_number Refusal.RateCountOutOfRange = 20
 refusal_number Refusal.BufferTooShort = 21
 refusal_number Refusal.PeriodsOutOfRange = 22
 refusal_number Refusal.SecondSetOutOfRange = 23
+refusal_number Refusal.TableNotOfForm = 24
 
 -- The number that a call answers with a refusal: minus that of the ground.
 abbrev pub refused_number : Refusal → ℤ
@@ -53,10 +54,10 @@ abbrev pub or_else : Checked → Checked → Checked
 or_else (Err refusal) later = Err refusal
 or_else (Ok _) later = later
 
--- What a call answers: accepted, a number; a refusal is the refusal alone.
-abbrev pub answer_if : Checked → ℕ → Result ℕ Refusal
-answer_if (Ok _) n = Ok n
-answer_if (Err refusal) n = Err refusal
+-- What a call answers: accepted, its answer; a refusal is the refusal alone.
+abbrev pub answer_if : {A : Type 0} → Checked → A → Result A Refusal
+answer_if (Ok _) answer = Ok answer
+answer_if (Err refusal) answer = Err refusal
 
 -- What it leaves in a lent list: accepted,
 -- the first places hold what it wrote and no others are written; a refusal leaves the list as it was.

@@ -31,6 +31,7 @@ pub enum Refusal {
     BufferTooShort,
     PeriodsOutOfRange,
     SecondSetOutOfRange,
+    TableNotOfForm,
 }
 
 // The refusal where its ground is met; a call goes on with `?`, and so answers the first that is.

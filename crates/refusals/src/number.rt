@@ -36,6 +36,7 @@ impl From<Refusal> for u64 {
             Refusal::BufferTooShort => 21,
             Refusal::PeriodsOutOfRange => 22,
             Refusal::SecondSetOutOfRange => 23,
+            Refusal::TableNotOfForm => 24,
         }
     }
 }
