@@ -3,5 +3,7 @@ pub mod AnyChain
 pub mod FromBook
 pub mod Filling
 pub mod Call
+-- What the promises say of a factor with its margin.
+pub mod Raised
 -- What is promised.
 pub mod Promised

@@ -1,5 +1,5 @@
 -- The balance (document 01, "Balance"), over the share's scale and a rate for each member.
-use Rattle.std.specs.Prelude.{ℕ, zero, suc, ◌+◌, ◌*◌, ◌/◌, ◌^◌, List, [], ◌∷◌, ◌++◌, get_or}
+use Rattle.std.specs.Prelude.{ℕ, zero, suc, ◌+◌, ◌*◌, ◌/◌, ◌^◌, min, List, [], ◌∷◌, ◌++◌, get_or}
 use Rattle.book.specs.declared.feed.Feed.{Feed}
 use Rattle.balance.specs.Chain.{Chain}
 
@@ -34,3 +34,7 @@ reported scale chain rate = in_member_order chain (λ i fed. fed / scale * K / r
 
 abbrev pub reported_factor : ℕ → Chain → (ℕ → ℕ) → ℕ → ℕ
 reported_factor scale chain rate i = get_or (reported scale chain rate i) i 0
+
+-- Member i's reported factor with 2i added, capped at G.
+abbrev pub raised : ℕ → ℕ → ℕ
+raised i factor = min (factor + 2 * i) G

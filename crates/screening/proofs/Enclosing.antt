@@ -1,15 +1,16 @@
 -- The exact factors of a chain's members, over the last member's denominator, enclose the reported ones.
 -- The promise of each member's factor speaks of its own denominator; equal fractions compare alike with any number.
-use Prim.Native.Nat.{ℕ, zero, suc, ◌+◌, ◌-◌, ◌*◌, ◌≤◌, ◌<◌}
-use native.Mathlib.Nat.{le_of_lt, mul-le-mul_left, le_of_mul-le-mul_left}
+use Prim.Native.Nat.{ℕ, ◌-◌, ◌*◌, ◌≤◌, ◌<◌}
+use native.Mathlib.Nat.{mul-le-mul_left, le_of_mul-le-mul_left}
 use native.Mathlib.Omega.{arith}
-use mathlib.Core.Path.{◌≡◌, refl, ap}
+use mathlib.Core.Path.{◌≡◌, ap}
 use lib.ListN.{get_or}
 use Rattle.balance.specs.Chain.{Chain}
 use Rattle.balance.specs.Balance.{G}
 use Rattle.balance.specs.Exact.{numerators, numerator, denominator}
 use Rattle.balance.specs.Promises.{FactorPromise}
 use Rattle.balance.proofs.AnyChain.Numerators.{denominator_pos}
+use Rattle.balance.proofs.Raised.{exact_at_most_raised}
 use Rattle.screening.proofs.OneDenominator.{one_denominator}
 use Rattle.verdict.specs.Promises.{Enclosed}
 
@@ -28,12 +29,6 @@ module _ {x P n d : ℕ} (same : SameFraction x P n d) (y c : ℕ) where
       le_of_mul-le-mul_left {k = d} (omega (arith, mul-le-mul_left P h, ap (λ t. c * t) same.crossed)) same.positive
 
 module _ {scale : ℕ} {chain : Chain} {rate : ℕ → ℕ} where
-  within_2i :
-      (i : ℕ) {f : ℕ} → FactorPromise scale chain rate i f →
-      numerator scale chain rate i * G ≤ (f + 2 * i) * denominator scale chain rate i
-  within_2i zero promise = omega (arith, promise.parent_equal refl)
-  within_2i (suc i) promise = le_of_lt (promise.less_than_2i_below (omega arith))
-
   module _ (pos : 0 < scale) (n : ℕ) {f : ℕ → ℕ}
       (promises : (i : ℕ) → i < n → FactorPromise scale chain rate i (f i)) where
     same :
@@ -54,7 +49,5 @@ module _ {scale : ℕ} {chain : Chain} {rate : ℕ → ℕ} where
     factors_enclosed =
         record {
           not_above = λ i l. below_fraction (same i l) _ G (promises i l).never_above;
-          near = λ i l. above_fraction (same i l) _ G (within_2i i (promises i l));
-          at_most_one =
-              λ i l. omega (arith, above_fraction (same i l) 1 1 (omega (arith, (promises i l).exact_at_most_one)));
+          at_most_raised = λ i l. above_fraction (same i l) _ G (exact_at_most_raised i (promises i l));
         }

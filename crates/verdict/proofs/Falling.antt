@@ -1,9 +1,9 @@
 -- Where no factor is larger no sum of weighted factors is, so no verdict is worse; and the equilibrium factor is at
 -- most 1.
-use Prim.Native.Nat.{ℕ, suc, ◌+◌, ◌-◌, ◌*◌, ◌≤◌, ◌<◌, min}
+use Prim.Native.Nat.{ℕ, suc, ◌-◌, ◌*◌, ◌≤◌, ◌<◌}
 use native.Mathlib.Nat.{mul-le-mul_left, div-le_of_le-mul}
 use native.Mathlib.Omega.{arith}
-use Rattle.balance.specs.Balance.{G}
+use Rattle.balance.specs.Balance.{raised}
 use Rattle.numbers.specs.Sums.{sum_below}
 use Rattle.numbers.proofs.Sums.{sum_mono}
 use Rattle.verdict.specs.Verdict.{Assessment, low, high, verdict_at, verdict_order}
@@ -11,7 +11,7 @@ use Rattle.verdict.specs.WorkingLevels.{alpha_weight, alpha_sum, equilibrium}
 use Rattle.verdict.specs.Promises.{NoLarger}
 use Rattle.verdict.proofs.Verdicts.{no_worse_of_lower}
 
-raised_falls : (i f lower : ℕ) → lower ≤ f → min (lower + 2 * i) G ≤ min (f + 2 * i) G
+raised_falls : (i f lower : ℕ) → lower ≤ f → raised i lower ≤ raised i f
 raised_falls i f lower h = omega arith
 
 module _ (a b : Assessment) (falls : NoLarger a b) where
@@ -31,7 +31,7 @@ module _ (a b : Assessment) (falls : NoLarger a b) where
       rw falls.bound
       (no_worse_of_lower (low a C) (low b C) (high a C) (high b C) a.bound
       (mul-le-mul_left C (sum_falls (λ i f. f) (λ i f lower h. h)))
-      (mul-le-mul_left C (sum_falls (λ i f. min (f + 2 * i) G) raised_falls)))
+      (mul-le-mul_left C (sum_falls raised raised_falls)))
 
 pub alpha_falls :
     (n : ℕ) (coefficient : ℕ → ℕ → ℕ) {f lower : ℕ → ℕ} → ((i : ℕ) → i < n → lower i ≤ f i) →

@@ -7,9 +7,9 @@ use mathlib.Core.List.{List}
 use lib.Dec.{lit<}
 use lib.ListN.{length, get_or}
 use Rattle.wide.specs.Value.{modulus}
-use Rattle.balance.specs.Balance.{G}
+use Rattle.balance.specs.Balance.{G, raised}
 use Rattle.numbers.specs.Sums.{sum_below}
-use Rattle.verdict.specs.Verdict.{Assessment, bound_of, weight_of, raised, verdict_of, verdict_at}
+use Rattle.verdict.specs.Verdict.{Assessment, bound_of, weight_of, verdict_of, verdict_at}
 use Rattle.verdict.specs.Verdict.{capped_quotient, max_level, level}
 use Rattle.verdict.specs.HeldNumbers.{number_in, term_in, assessment_in, judged_on, Summable, SumsOf}
 use Rattle.verdict.specs.declared.verdict.Criterion.{Criterion}
@@ -54,7 +54,7 @@ module _ {a : Assessment} {lows highs B : ℕ} (sums : SumsOf a lows highs B) wh
   pub verdict_is : (C : ℕ) {v : Verdict} → v ≡ verdict_of (C * lows) (C * highs) B → v ≡ verdict_at a C
   verdict_is C given =
       let low_sum = sum_below a.count (λ i. a.weight i * a.factor i) in
-      let high_sum = sum_below a.count (λ i. a.weight i * raised a i) in
+      let high_sum = sum_below a.count (λ i. a.weight i * raised i (a.factor i)) in
       rw (given, sums.low_is, sums.high_is, sums.bound_is, one-mul low_sum, one-mul high_sum)
 
   pub judged_is :

@@ -1,19 +1,18 @@
 -- What is promised of any assessment, wherever its numbers come from (document 01, "Verdict").
 use Rattle.std.specs.Prelude.{ℕ, ◌+◌, ◌*◌, ◌≤◌, ◌<◌, ◌≡◌}
 use Rattle.numbers.specs.Sums.{sum_below}
-use Rattle.balance.specs.Balance.{G}
+use Rattle.balance.specs.Balance.{G, raised}
 use Rattle.verdict.specs.Verdict.{Assessment, gap, verdict_at, verdict_order, max_level, level}
 use Rattle.verdict.specs.CommonFactor.{CommonFactor, Unchanged}
 use Rattle.verdict.specs.WholeHours.{RestatedPromise}
 use Rattle.verdict.specs.declared.verdict.Verdict.{Verdict}
 use Rattle.verdict.specs.declared.verdict.Verdict.TheVariants.{Below, Close, Above}
 
--- Exact factors, member i's x / P, for reported ones of f grains: each is at least the reported one, at most 2i grains
--- above it, and at most 1. Each comparison is multiplied out.
+-- Exact factors, member i's x / P, for reported ones of f grains: each is at least the reported one, and at most that
+-- with 2i added, capped at G. Each comparison is multiplied out.
 pub record Enclosed (n P : ℕ) (f x : ℕ → ℕ) : Type 0 where
   pub not_above : (i : ℕ) → i < n → f i * P ≤ x i * G
-  pub near : (i : ℕ) → i < n → x i * G ≤ (f i + 2 * i) * P
-  pub at_most_one : (i : ℕ) → i < n → x i ≤ P
+  pub at_most_raised : (i : ℕ) → i < n → x i * G ≤ raised i (f i) * P
 
 -- The exact quantity is Low with exact factors in grains: this whole numerator, over P.
 abbrev pub exactly : Assessment → (ℕ → ℕ) → ℕ → ℕ

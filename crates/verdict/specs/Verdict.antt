@@ -1,7 +1,7 @@
 -- The verdict on risk or yearly dose, and the screening level (document 01, "Verdict").
 use Rattle.std.specs.Prelude.{ℕ, ◌+◌, ◌*◌, ◌/◌, ◌^◌, min, cond, leb, eqb}
 use Rattle.numbers.specs.Sums.{sum_below}
-use Rattle.balance.specs.Balance.{G}
+use Rattle.balance.specs.Balance.{G, raised}
 use Rattle.exposure.specs.declared.kind.Kind.{Kind}
 use Rattle.verdict.specs.declared.verdict.Criterion.{Criterion}
 use Rattle.verdict.specs.declared.verdict.Verdict.{Verdict}
@@ -46,16 +46,13 @@ abbrev pub assessment_by : Criterion → ℕ → (ℕ → ℕ → ℕ) → (ℕ 
 assessment_by by count coefficient factor =
     record { count = count; weight = weight_of by coefficient; factor = factor; bound = bound_of by }
 
-abbrev pub raised : Assessment → ℕ → ℕ
-raised a i = min (a.factor i + 2 * i) G
-
 -- Low: C × the sum of q(i) × reported factor.
 abbrev pub low : Assessment → ℕ → ℕ
 low a C = C * sum_below a.count (λ i. a.weight i * a.factor i)
 
 -- High: the same with 2i added to each factor, capped at G.
 abbrev pub high : Assessment → ℕ → ℕ
-high a C = C * sum_below a.count (λ i. a.weight i * raised a i)
+high a C = C * sum_below a.count (λ i. a.weight i * raised i (a.factor i))
 
 -- The gap, in the scale of B.
 abbrev pub gap : Assessment → ℕ → ℕ
