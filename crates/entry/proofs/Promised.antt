@@ -14,7 +14,7 @@ use Rattle.entry.proofs.Places.{power_next, Turn, turn}
 use Rattle.entry.proofs.Cases.{of_zero, of_some}
 use Rattle.entry.proofs.NearestForm.{nearest_printable, only_nearest}
 
-form_nine : (d e : ℕ) → length (form d e) ≡ 9
+pub form_nine : (d e : ℕ) → length (form d e) ≡ 9
 form_nine d zero = refl
 form_nine d (suc e) = refl
 
@@ -24,8 +24,8 @@ entry_nine zero = refl
 entry_nine (suc n) = form_nine (thousandths (suc n) (exponent (suc n))) (exponent (suc n))
 
 module _ {x e : ℕ} (t : Turn x e) where
-  share : Between (x * 10 ^ (e + 3)) G (thousandths x e)
-  share = nearest_between (x * 10 ^ (e + 3)) G (omega arith)
+  pub share_rounded : Between (x * 10 ^ (e + 3)) G (thousandths x e)
+  share_rounded = nearest_between (x * 10 ^ (e + 3)) G (omega arith)
 
   nearly_five : 19999 * G ≤ 20 * (x * 10 ^ (e + 3))
   nearly_five =
@@ -36,11 +36,11 @@ module _ {x e : ℕ} (t : Turn x e) where
         ap (λ p. x * p) (power_next e),
       )
 
-  turned : NearestPrintable x (thousandths x e) e
+  pub turned : NearestPrintable x (thousandths x e) e
   turned =
-      nearest_printable x (thousandths x e) e share nearly_five
+      nearest_printable x (thousandths x e) e share_rounded nearly_five
       (record {
-        first_digit = omega (arith, nearly_five, share.below);
+        first_digit = omega (arith, nearly_five, share_rounded.below);
         four_digits = omega (arith, t.four);
         two_digits = t.within;
       })

@@ -21,7 +21,8 @@ fn sign(e: u64) -> u8
 }
 
 impl Share {
-    pub(crate) fn printed(self) -> [u8; ENTRY_LENGTH]
+    // The nine characters of a share; no digit but the last four, or the exponent's last two, is shown.
+    pub fn printed(self) -> [u8; ENTRY_LENGTH]
         ensures { result ≡ form self.thousandths self.exponent }
     {
         let d = self.thousandths;

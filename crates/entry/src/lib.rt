@@ -10,6 +10,7 @@ ghost use Rattle.entry.specs.Entry.{entry_of};
 ghost use Rattle.entry.specs.Promises.{EntryPromise};
 
 use balance::GRAINS;
+pub use scaling::Share;
 use scaling::share_of;
 
 // Every entry has nine characters.

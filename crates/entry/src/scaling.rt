@@ -9,9 +9,9 @@ use rounding::nearest;
 // The least number of five digits.
 const FIVE_DIGITS: u64 = 10_000;
 
-// The share is so many thousandths of 10^-exponent, to the nearest.
+// A share as a table prints it: so many thousandths of 10^-exponent.
 #[derive(Clone, Copy)]
-pub(crate) struct Share {
+pub struct Share {
     pub thousandths: u64,
     pub exponent: u64,
 }

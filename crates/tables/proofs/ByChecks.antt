@@ -28,15 +28,25 @@ rate_low rates none i l =
     ltb-false max_rate (get_or rates i 0) (none_below (length rates) (λ k. ltb max_rate (get_or rates k 0)) none i l)
 
 module _ (rates book : List ℕ) where
-  pub passed : first_met (earlier_grounds rates book) ≡ Ok tt → Accepted book × Tabulable rates
-  passed found =
+  -- By parts: the rates' size, the book, and the rates' number.
+  parts : first_met (earlier_grounds rates book) ≡ Ok tt →
+      (some_rate_too_high rates ≡ false) × Accepted book × (1 ≤ length rates) × (length rates ≤ max_rates)
+  parts found =
       let count = ground_of RateCountOutOfRange (rate_count_out_of_range rates) ∷ [] in
       let rate = not_met (some_rate_too_high rates) _ _ found in
       let both = sym (first_of_both (book_grounds book) count) ∙ rate.1 in
       let rest = both_pass (first_met (book_grounds book)) (first_met count) both in
       let within = not_met (rate_count_out_of_range rates) _ _ rest.1 in
       let counted = neither (ltb (length rates) 1) (ltb max_rates (length rates)) within.0 in
-      (rest.0, record { low = rate_low rates rate.0; few = ltb-false max_rates (length rates) counted.1 })
+      (rate.0, rest.0, ltb-false (length rates) 1 counted.0, ltb-false max_rates (length rates) counted.1)
+
+  pub passed : first_met (earlier_grounds rates book) ≡ Ok tt → Accepted book × Tabulable rates
+  passed found =
+      let part = parts found in
+      (part.1, record { low = rate_low rates part.0; few = part.3 })
+
+  pub some_rate : first_met (earlier_grounds rates book) ≡ Ok tt → 1 ≤ length rates
+  some_rate found = (parts found).2
 
   -- What the last check finds, and what all of them find.
   abbrev pub last : ℕ → Checked

@@ -16,7 +16,7 @@ ghost use Rattle.tables.specs.Private.Tabulable.{Tabulable, fitting_answer};
 use book::{AcceptedChain, read_chain};
 use checks::check_table;
 use lengths::table_length;
-pub use limits::{MAX_RATES, TABLE_ROOM};
+pub use limits::{MAX_RATES, RATE_DIGITS, TABLE_ROOM};
 use lines::put_rate_lines;
 use refusals::Refusal;
 pub use source_rates::SOURCE_RATES;

@@ -9,7 +9,7 @@ use entry::ENTRY_LENGTH;
 pub const MAX_RATES: usize = 200;
 
 // No rate that is accepted has more digits.
-const RATE_DIGITS: usize = 6;
+pub const RATE_DIGITS: usize = 6;
 
 // No table is longer: a line has the rate, a space and an entry for each member, and a line feed.
 pub const TABLE_ROOM: usize = MAX_RATES * (RATE_DIGITS + MAX_MEMBERS * (1 + ENTRY_LENGTH) + 1);
