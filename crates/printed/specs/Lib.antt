@@ -1,0 +1,4 @@
+pub mod Places
+pub mod Mark
+pub mod Promises
+pub mod Private
