@@ -22,6 +22,12 @@ use Rattle.minutes.specs.Periods.{period_rate_too_high, periods_out_of_range, pe
 use Rattle.text.specs.Words.{ascii, decimal, line_feed}
 use Rattle.entry.specs.Entry.{exponent_up_to, entry_of}
 use Rattle.tables.specs.Answers.{some_rate_too_high, table_answer, table_buffer}
+use Rattle.printed.specs.Places.{number_at}
+use Rattle.printed.specs.Mark.{mark_of}
+use Rattle.marking.specs.Lines.{lines_after, spaced_shares}
+use Rattle.marking.specs.Form.{line_of_form, table_not_of_form}
+use Rattle.marking.specs.Marks.{mark_in, first_wrong, marks_of}
+use Rattle.marking.specs.Text.{text_of, marks_text}
 use Rattle.reading.specs.Reading.{amount_of, unit_of, medium_of, whole, whole_answer}
 use Rattle.reading.specs.Reading.{reading_unusable, concentration_too_high, intake_answer}
 use Rattle.reading.specs.declared.error.ReadingError.{ReadingError}
@@ -114,6 +120,8 @@ pub data Row : Type 0 where
   -- the table call at these rates on a book answers the length of these lines, and leaves them in a buffer of that
   -- length
   tabled : List ℕ → List ℕ → List String → Row
+  -- what is told of a table of these lines, by a book
+  compared : List ℕ → List String → List String → Row
   -- after these periods the members of a book have these factors
   aired : List ℕ → List ℕ → List ℕ → Row
   -- these periods are refused with this number, whatever the room
@@ -170,6 +178,7 @@ holds (entered factor text) = same_list (entry_of factor) (ascii text)
 holds (tabled rates book text) =
     counts (answer_number (table_answer rates book (length (lines text)))) (length (lines text))
     && same_list (table_buffer rates book (replicate (length (lines text)) 0)) (lines text)
+holds (compared book table text) = same_list (marks_text (lines table) book) (lines text)
 holds (aired periods book expected) =
     counts (answer_number (periods_answer periods book (length expected))) (length expected)
     && same_list (periods_list periods book (replicate (length expected) 7)) expected
@@ -216,6 +225,15 @@ marked =
     ∷ entered G "1.000E+00"
     ∷ tabled (0 ∷ 100 ∷ 200 ∷ []) (one_daughter 100000)
     ("0 1.000E+00 1.000E+00" ∷ "100 1.000E+00 5.000E-01" ∷ "200 1.000E+00 3.333E-01" ∷ [])
+    ∷ compared (one_daughter 100000)
+    ("0 1.000E+00 1.000E+00" ∷ "100 1.000E+00 5.000E-01" ∷ "200 1.000E+00 3.334E-01" ∷ [])
+    ("right 5" ∷ "close 0" ∷ "wrong 1" ∷ "first 3 1" ∷ [])
+    ∷ compared (one_daughter 100000) ("100 1.000E+00 5.000E-01" ∷ [])
+    ("right 2" ∷ "close 0" ∷ "wrong 0" ∷ "first none" ∷ [])
+    ∷ compared (one_daughter 100000) ("100 1.000E+00 9.999E+00" ∷ [])
+    ("right 1" ∷ "close 0" ∷ "wrong 1" ∷ "first 1 1" ∷ [])
+    ∷ compared (one_daughter 100000) ("0100 1.000E+00 5.000E-01" ∷ []) ("refused 24" ∷ [])
+    ∷ compared (one_daughter 100000) ("100001 1.000E+00 5.000E-01" ∷ []) ("refused 24" ∷ [])
     ∷ aired (0 ∷ 1 ∷ []) (one_daughter 100000) (G ∷ G / 61 ∷ [])
     ∷ aired (300 ∷ 2 ∷ []) (one_daughter 100000) (G ∷ 33285996544 ∷ [])
     ∷ aired (300 ∷ 1 ∷ 0 ∷ 1 ∷ []) (one_daughter 100000) (G ∷ 34923012767 ∷ [])
@@ -237,6 +255,7 @@ unfolding
     divisor_or_zeros_wrong member_out_of_range feed_out_of_range walk occurrences feed_not_once feeds_misplaced
     feed_not_from_lower shares_out_too_high in_member_order reported minute minutes after_periods period_rate_too_high
     periods_out_of_range nearest exposure_out_of_range whole reading_unusable concentration_too_high code_unknown
+    lines_after spaced_shares number_at line_of_form table_not_of_form mark_of mark_in first_wrong marks_of text_of
     attenuation_out_of_range sum_below level working_levels figures_at number_is verdict_is level_is odd of_bits
     count_trailing_zeros
 every_marked_row_holds = refl
