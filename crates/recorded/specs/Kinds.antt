@@ -10,8 +10,9 @@ number_of Kind.Factors = 2
 number_of Kind.Table = 3
 number_of Kind.Opening = 4
 number_of Kind.Partner = 5
+number_of Kind.Marks = 6
 
 -- The kind of a number, or that no kind has it.
 abbrev pub Names : ℕ → Result Kind UnknownKind → Type 0
 Names number found =
-    MatchResult found (λ kind. number_of kind ≡ number) (λ unknown. (unknown.0 ≡ number) × (5 < number))
+    MatchResult found (λ kind. number_of kind ≡ number) (λ unknown. (unknown.0 ≡ number) × (6 < number))

@@ -17,6 +17,8 @@ pub(crate) enum Kind {
     Opening,
     // A job by a second set, as `partner` writes it.
     Partner,
+    // A table and a book, as `marks` writes it.
+    Marks,
 }
 
 #[derive(Debug, Drop, Error)]
@@ -36,6 +38,7 @@ impl TryFrom<u8> for Kind {
             3 => Ok(Kind::Table),
             4 => Ok(Kind::Opening),
             5 => Ok(Kind::Partner),
+            6 => Ok(Kind::Marks),
             _ => Err(UnknownKind(number)),
         }
     }

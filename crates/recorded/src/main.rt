@@ -8,7 +8,8 @@ use arguments::ended;
 use kind::Kind;
 use record::{Record, next_record};
 use records::{
-    answer_all, factors_case, lowest_case, opening_case, partner_case, report_case, table_case,
+    answer_all, factors_case, lowest_case, marks_case, opening_case, partner_case, report_case,
+    table_case,
 };
 use std::alloc::{AllocError, Global};
 use std::process::ExitCode;
@@ -33,5 +34,6 @@ fn text_of(alloc: Global, record: &Record) -> Result<Vec<u8>, AllocError> {
         Kind::Table => table_case(alloc, &record.body),
         Kind::Opening => opening_case(alloc, &record.body),
         Kind::Partner => partner_case(alloc, &record.body),
+        Kind::Marks => marks_case(alloc, &record.body),
     }
 }

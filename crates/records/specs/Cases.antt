@@ -10,6 +10,7 @@ use Rattle.balance.specs.Factors.{factor_answer, factor_list}
 use Rattle.minutes.specs.Periods.{periods_answer, periods_list}
 use Rattle.tables.specs.Answers.{table_answer, table_buffer}
 use Rattle.report.specs.BySet.{partner_text}
+use Rattle.marking.specs.Text.{marks_text}
 use Rattle.text.specs.Words.{ascii, decimal, line_feed}
 
 -- The first record of some bytes, as much of it as there is room for: a length in two bytes, and so many bytes.
@@ -107,8 +108,17 @@ table_case body =
     answered (ascii "written ") (table_answer rates book (length buffer)) ++ line_feed ++ table_buffer rates book buffer
     ++ line_feed
 
--- A job by a second set: the set's length (u32), the set, the job, as `partner` writes it.
+-- Two parts: the first one's length (u32), the first, the second.
+abbrev pub first_part : List ℕ → List ℕ
+first_part body = take (u32_at body 0) (drop 4 body)
+
+abbrev pub second_part : List ℕ → List ℕ
+second_part body = drop (4 + u32_at body 0) body
+
+-- A second set and a job, as `partner` writes it.
 abbrev pub partner_case : List ℕ → List ℕ
-partner_case body =
-    let size = u32_at body 0 in
-    partner_text (drop (4 + size) body) (take size (drop 4 body))
+partner_case body = partner_text (second_part body) (first_part body)
+
+-- A table and a book, as `marks` writes it.
+abbrev pub marks_case : List ℕ → List ℕ
+marks_case body = marks_text (first_part body) (second_part body)

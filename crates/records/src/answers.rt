@@ -2,11 +2,13 @@
 ghost use Rattle.std.specs.Prelude.{◌≡◌, ◌<◌, ◌++◌, take, drop, length, IfOk, OnOk};
 ghost use Rattle.report.specs.Report.{report_of};
 ghost use Rattle.report.specs.RateLine.{rate_line};
-ghost use Rattle.records.specs.Cases.{factors_case, opening_case, table_case, partner_case};
+ghost use Rattle.records.specs.Cases.{factors_case, opening_case, table_case, partner_case, marks_case};
+ghost use Rattle.records.specs.Cases.{first_part, second_part};
 ghost use Rattle.records.specs.Cases.{numbers_at, list_line, answered};
 
 use super::words::{push_number, push_places};
 use balance::factors;
+use marking::{MARKS_ROOM, marks_text};
 use minutes::factors_after;
 use numbers::{u16_at, u32_at};
 use refusals::Refusal;
@@ -41,14 +43,17 @@ pub fn lowest_case(alloc: Global, job: &[u8]) -> Result<Vec<u8>, AllocError>
 pub fn partner_case(alloc: Global, body: &[u8]) -> Result<Vec<u8>, AllocError>
     ensures { IfOk result (λ text. text.items ≡ partner_case body.now) }
 {
-    // A usize has no `From<u32>`; the cast cuts nothing.
-    let size = u32_at(body, 0) as usize;
     let mut buffer = [0u8; PARTNER_ROOM];
-    let n = partner_text(
-        rest(body, 4 + size),
-        start(rest(body, 4), size),
-        &mut buffer,
-    );
+    let n = partner_text(second_part(body), first_part(body), &mut buffer);
+    Vec::from_slice(alloc, &buffer[..n])
+}
+
+// A table and a book, as `marks` writes it.
+pub fn marks_case(alloc: Global, body: &[u8]) -> Result<Vec<u8>, AllocError>
+    ensures { IfOk result (λ text. text.items ≡ marks_case body.now) }
+{
+    let mut buffer = [0u8; MARKS_ROOM];
+    let n = marks_text(first_part(body), second_part(body), &mut buffer);
     Vec::from_slice(alloc, &buffer[..n])
 }
 
@@ -129,6 +134,21 @@ fn numbers(alloc: Global, body: &[u8], offset: u32, count: u16) -> Result<Vec<u3
     (0..u32::from(count))
         .map(|i| u32_at(body, offset + 4 * i))
         .collect(alloc)
+}
+
+// Of two parts the first, whose length stands before it; as much of it as there is. A usize has no `From<u32>`, here
+// and below; the casts cut nothing.
+fn first_part(body: &[u8]) -> &[u8]
+    ensures { result.now ≡ first_part body.now }
+{
+    start(rest(body, 4), u32_at(body, 0) as usize)
+}
+
+// And the second, which is what follows.
+fn second_part(body: &[u8]) -> &[u8]
+    ensures { result.now ≡ second_part body.now }
+{
+    rest(body, 4 + u32_at(body, 0) as usize)
 }
 
 // So many of the first bytes; all where there are fewer.

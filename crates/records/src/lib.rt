@@ -7,5 +7,7 @@ mod input;
 mod words;
 
 pub use answering::{answer_all, answer_cases, answer_records};
-pub use answers::{factors_case, lowest_case, opening_case, partner_case, report_case, table_case};
+pub use answers::{
+    factors_case, lowest_case, marks_case, opening_case, partner_case, report_case, table_case,
+};
 pub use input::{Shape, read_record};
