@@ -1,7 +1,7 @@
 -- The number that a caller in another language gets: that of the call's own answer, the answer itself where it is not
 -- negative, and minus the number of the refusal otherwise.
-use Rattle.refusals.specs.Grounds.{answer_number}
-use Rattle.std.specs.Prelude.{ℕ, ◌+◌, ◌*◌, ◌≡◌, List, ℤ, pos, Result, Ok, Err}
+use Rattle.refusals.specs.Grounds.{answer_number, refused_number}
+use Rattle.std.specs.Prelude.{ℕ, ◌+◌, ◌*◌, ◌≡◌, List, [], ◌∷◌, ℤ, pos, Result, Ok, Err, Option, Some, None}
 use Rattle.std.specs.Option.{ok_or}
 use Rattle.refusals.specs.declared.Refusal.{Refusal}
 use Rattle.refusals.specs.declared.Refusal.TheVariants.{BufferTooShort}
@@ -17,6 +17,9 @@ use Rattle.report.specs.Report.{report_of}
 use Rattle.ventilation.specs.Lowest.{lowest_with, lowest_number}
 use Rattle.ventilation.specs.declared.LowestRate.{LowestRate}
 use Rattle.tables.specs.Answers.{table_answer}
+use Rattle.marking.specs.Answers.{marks_answer}
+use Rattle.marking.specs.declared.tally.Marks.{Marks}
+use Rattle.marking.specs.declared.tally.Place.{Place}
 
 -- What the factor call answers for a rate, a book and a list of so many places.
 abbrev pub factors_number : ℕ → List ℕ → ℕ → ℤ
@@ -53,6 +56,27 @@ abbrev pub lowest_set_left : Result LowestRate Refusal → ℕ → ℕ
 lowest_set_left (Ok answer) set = set_number answer.set
 lowest_set_left (Err refusal) set = set
 
--- What the version call answers: version 0.8.0.
+-- What the call for marks answers for a table and a book: how many entries were marked.
+abbrev pub entries_number : Result Marks Refusal → ℤ
+entries_number (Ok marks) = pos (marks.right + marks.close + marks.wrong)
+entries_number (Err refusal) = refused_number refusal
+
+abbrev pub marks_number : List ℕ → List ℕ → ℤ
+marks_number text book = entries_number (marks_answer text book)
+
+-- The five numbers afterwards: how many are right, close and wrong, and the line and the member of the first wrong one,
+-- or 0 and 0 where none is; a refusal leaves them as they were.
+abbrev pub place_numbers : Option Place → List ℕ
+place_numbers None = 0 ∷ 0 ∷ []
+place_numbers (Some place) = place.line ∷ place.member ∷ []
+
+abbrev pub five_numbers : Marks → List ℕ
+five_numbers marks = marks.right ∷ marks.close ∷ marks.wrong ∷ place_numbers marks.first
+
+abbrev pub marks_left : Result Marks Refusal → List ℕ → List ℕ
+marks_left (Ok marks) list = five_numbers marks
+marks_left (Err refusal) list = list
+
+-- What the version call answers: version 0.9.0.
 abbrev pub version : ℕ
-version = 1000000 * 0 + 1000 * 8 + 0
+version = 1000000 * 0 + 1000 * 9 + 0

@@ -14,8 +14,11 @@ ghost use Rattle.refusals.specs.Grounds.{refused_number, answer_number};
 ghost use Rattle.jelmorand.specs.Answers.{factors_number, report_number, screen_number, ScreenPromise, version};
 ghost use Rattle.jelmorand.specs.Answers.{table_number, periods_number, lowest_rate_number, lowest_set_left};
 ghost use Rattle.ventilation.specs.Lowest.{lowest_with};
+ghost use Rattle.marking.specs.Answers.{marks_answer};
+ghost use Rattle.jelmorand.specs.Answers.{marks_number, five_numbers, marks_left};
 
 use figures::{FigureNumbers, screen_numbers};
+use marking::{Marks, Place, mark_table};
 use minutes::factors_after;
 use refusals::Refusal;
 use report::report_job;
@@ -26,7 +29,7 @@ use ventilation::lowest_rate_with;
 const NO_RATE: i64 = 100_001;
 
 // 1,000,000 times the first part of the version, 1,000 times the second and the third.
-const VERSION: i64 = 8_000;
+const VERSION: i64 = 9_000;
 
 // The version of these calls: one that has every call of a header has at least the header's.
 #[unsafe(no_mangle)]
@@ -53,6 +56,21 @@ fn number_of(answer: Result<usize, Refusal>) -> i64
         Ok(n) => n as i64,
         Err(refusal) => refused(refusal),
     }
+}
+
+// The marks as five numbers.
+fn numbers_of(found: Marks) -> [u64; 5]
+    ensures { result ≡ five_numbers found }
+{
+    let none = Place { line: 0, member: 0 };
+    let first = found.first.unwrap_or(none);
+    [
+        found.right,
+        found.close,
+        found.wrong,
+        first.line,
+        first.member,
+    ]
 }
 
 // The factors of every member at rate `v`, into the first places of `out`; a refusal leaves `out` as it was.
@@ -119,6 +137,23 @@ pub extern "C" fn jelmorand_table(rates: &[u32], book: &[u8], out: &mut [u8]) ->
     ensures written { out.new ≡ table_buffer rates.now book.now out.old }
 {
     number_of(tabulate(rates, book, out))
+}
+
+// How a table's entries are marked by a book, five numbers: how many are right, close and wrong, and the line and the
+// member of the first wrong one, or line 0 and member 0 where none is. The answer is how many entries were marked; a
+// refusal leaves `marks` as it was.
+#[unsafe(no_mangle)]
+pub extern "C" fn jelmorand_marks(text: &[u8], book: &[u8], marks: &mut [u64; 5]) -> i64
+    ensures answered { result ≡ marks_number text.now book.now }
+    ensures marks { marks.new ≡ marks_left (marks_answer text.now book.now) marks.old }
+{
+    match mark_table(text, book) {
+        Ok(found) => {
+            *marks = numbers_of(found);
+            (found.right + found.close + found.wrong) as i64
+        }
+        Err(refusal) => refused(refusal),
+    }
 }
 
 // The factors of every member after periods of airing, each a rate and so many minutes, into the first places of `out`;
