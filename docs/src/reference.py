@@ -1,14 +1,15 @@
-"""Documents 01 and 02 (R-1 to R-7) in exact whole numbers and fractions: the check from outside.
+"""Documents 01 and 02 (R-1 to R-8) in exact whole numbers and fractions: the check from outside.
 
 It follows document 01's order and words, with exposure in quarter hours as R-1 of document 02 has it,
-with R-2's shares of the years for dose, R-3's tables, R-5's rooms minute by minute, R-6's lowest rate and
-R-7's second set of coefficients (R-4 changed no answer), and has nothing in common with the proved program.
+with R-2's shares of the years for dose, R-3's tables, R-5's rooms minute by minute, R-6's lowest rate, R-7's
+second set of coefficients and R-8's marks (R-4 changed no answer), and has nothing in common with the proved program.
 A job on standard input gives the text of `screen` on standard output, with --fan that of `fan`;
 with --check it also asserts, on that job, what demand 3 promises, and with both what R-6 does.
 
     reference.py [--check] [--fan] < JOB
 """
 
+import re
 import struct
 import sys
 from collections import namedtuple
@@ -457,6 +458,88 @@ def in_use(book, second):
     return book._replace(members=[Member(member.T, *group) for member, group in zip(book.members, groups)])
 
 
+# ---- Tables from elsewhere (R-8), and the program `marks` -----------------------------------------
+
+# An entry as printed: its share of G, and the unit of its last place.
+Printed = namedtuple("Printed", "share unit")
+Mark = namedtuple("Mark", "line member word")  # lines count from 1, members from 0
+
+
+def read_rate(word):
+    """Whole hundredths, 0 to 100,000, in digits without leading zeros."""
+    refuse_if(not re.fullmatch(b"0|[1-9][0-9]*", word), 24)
+    refuse_if(len(word) > 6 or int(word) > 100_000, 24)
+    return int(word)
+
+
+def read_entry(word):
+    """d.dddE-dd or d.dddE+00, first digit 1 to 9, dd from 01 to 99; zero is 0.000E+00."""
+    refuse_if(not re.fullmatch(rb"[1-9][.][0-9]{3}E(-[0-9]{2}|[+]00)|0[.]000E[+]00", word), 24)
+    refuse_if(word.endswith(b"-00"), 24)
+    places = int(word[7:]) + 3  # of the last digit, after the point
+    return Printed(Fraction(int(word[:1] + word[2:5]), 10**places), Fraction(1, 10**places))
+
+
+def read_line(line, n):
+    """The rate, then each of n members' entry, with single spaces between."""
+    rate, *words = line.split(b" ")
+    refuse_if(len(words) != n, 24)
+    return read_rate(rate), [read_entry(word) for word in words]
+
+
+def read_lines(text, n):
+    """1 to 200 lines, each with a line feed last: check 24."""
+    *lines, rest = text.split(b"\n")
+    refuse_if(rest != b"" or not 1 <= len(lines) <= 200, 24)
+    return [read_line(line, n) for line in lines]
+
+
+def interval(i, x):
+    """In grains: from the reported factor x of member i to 2i above it, at most G."""
+    return x, min(x + 2 * i, G)
+
+
+def mark(printed, low, high):
+    """The word for an entry, and the interval from low to high: every point of it is within half a unit of the last place,
+    ends counted, none is, or some are and some are not."""
+    least, most = (printed.share - printed.unit / 2) * G, (printed.share + printed.unit / 2) * G
+    if least <= low and high <= most:
+        return "right"
+    if high < least or most < low:
+        return "wrong"
+    return "close"
+
+
+def line_marks(v, entries, book):
+    return [mark(printed, *interval(i, x)) for i, (printed, x) in enumerate(zip(entries, reported_factors(v, book)))]
+
+
+def marks(lines, book):
+    """Every entry's mark, in reading order."""
+    return [Mark(number, member, word) for number, (v, entries) in enumerate(lines, 1)
+            for member, word in enumerate(line_marks(v, entries, book))]
+
+
+def marks_call(text, book_bytes):
+    """The marks, or the number of the refusal: checks 9 to 18, 24."""
+    try:
+        book = read_book(book_bytes)
+        lines = read_lines(text, book.n)
+    except Refused as refusal:
+        return refusal.number
+    return marks(lines, book)
+
+
+def marks_answer(text, book_bytes):
+    """The text that `marks` writes: how many are right, close and wrong, and where the first wrong one is."""
+    found = marks_call(text, book_bytes)
+    if isinstance(found, int):
+        return f"refused {found}\n"
+    counts = "".join(f"{word} {sum(one.word == word for one in found)}\n" for word in ("right", "close", "wrong"))
+    first = next((f"{one.line} {one.member}" for one in found if one.word == "wrong"), "none")
+    return counts + f"first {first}\n"
+
+
 # ---- The program `screen` -----------------------------------------------------------------------
 
 
@@ -651,6 +734,31 @@ def check_lowest(job_bytes, text, second=NOT_LENT):
     for v in {0, 100_000, rate or 0}:
         job, C, book = read_all(with_rate(v, job_bytes), second)
         assert first_below_by_halves(RATES, job, book, C) == rate, v
+
+
+# ---- R-8's promise, asserted on one table --------------------------------------------------------
+
+
+def check_marks(text, book_bytes):
+    """A right entry is within half a unit of its last place of the exact factor, and a wrong one isn't."""
+    found = marks_call(text, book_bytes)
+    if isinstance(found, int):
+        return
+    book = read_book(book_bytes)
+    lines = read_lines(text, book.n)
+    exact = [exact_factors(v, book) for v, _ in lines]
+    for line, member, word in found:
+        printed = lines[line - 1][1][member]
+        within = abs(exact[line - 1][member] - printed.share) <= printed.unit / 2
+        assert within or word != "right", (line, member)
+        assert not within or word != "wrong", (line, member)
+
+
+def check_own_table(rates, book_bytes):
+    """Nothing that R-3 writes for the same book is ever marked wrong."""
+    text = table_text(rates, read_book(book_bytes)).encode("ascii")
+    assert marks_answer(text, book_bytes).endswith("\nwrong 0\nfirst none\n")
+    check_marks(text, book_bytes)
 
 
 def main():
