@@ -12,6 +12,8 @@ body is
        each), rate and minutes in turn, the book
     5  a second set and a job: how many bytes the set has (u32), the set, the job, answered as by `partner`. A set of no
        bytes is not lent. Where fewer bytes follow, the set has these, and the job none
+    6  a table and a book: how many bytes the table has (u32), the table, the book, answered as by `marks`. Where fewer
+       bytes follow, the table has these, and the book none
 
 2 and 4 are answered by one line: `filled` or `refused`, how many places were filled or the refusal's number, a colon,
 and what every place of the list holds after the call; each held 7 before it. 3 is answered by `written` or `refused`,
@@ -47,11 +49,12 @@ def one_part(body):
     return (body,)
 
 
-def pack_partner(second, job):
-    return struct.pack("<I", len(second)) + second + job
+def pack_two(first, second):
+    return struct.pack("<I", len(first)) + first + second
 
 
-def unpack_partner(body):
+def two_parts(body):
+    """The first part, whose length stands before it, and the second."""
     (length,) = struct.unpack_from("<I", body)
     return body[4 : 4 + length], body[4 + length :]
 
@@ -116,6 +119,11 @@ def partner_end(text, at, *parts):
     return end if text.startswith("refused", at) else line_end(text, end)
 
 
+def marks_end(text, at, *parts):
+    """Three counts, and the line of the first wrong entry; or a refusal's own line."""
+    return line_end(text, at if text.startswith("refused", at) else text.index("\nfirst ", at) + 1)
+
+
 def buffer_end(text, at, numbers, book, room):
     return line_end(text, at) + room + 1
 
@@ -127,7 +135,8 @@ LOWEST = Kind(1, "fan_answer", bytes, one_part, text_itself, line_end)
 FACTORS = Kind(2, "factor_call", pack_factors, unpack_factors, places_text, line_end)
 TABLE = Kind(3, "table_call", *counted("<IH"), buffer_text, buffer_end)
 OPENING = Kind(4, "opening_call", *counted("<HH"), places_text, line_end)
-PARTNER = Kind(5, "partner_answer", pack_partner, unpack_partner, text_itself, partner_end)
+PARTNER = Kind(5, "partner_answer", pack_two, two_parts, text_itself, partner_end)
+MARKS = Kind(6, "marks_answer", pack_two, two_parts, text_itself, marks_end)
 
 table_call = TABLE.unpack  # the Python package's tests take recorded tables apart by this name
 
@@ -162,7 +171,7 @@ def read_records(data):
 
 def read_cases(wanted, stdin=CRATE / "stdin", stdout=CRATE / "stdout"):
     """The body and the answer of each case of one kind. Both files are read to their ends: no case lacks an answer."""
-    kinds = {kind.number: kind for kind in (JOB, LOWEST, FACTORS, TABLE, OPENING, PARTNER)}
+    kinds = {kind.number: kind for kind in (JOB, LOWEST, FACTORS, TABLE, OPENING, PARTNER, MARKS)}
     text, at, cases = pathlib.Path(stdout).read_text(encoding="ascii"), 0, []
     for number, body in read_records(pathlib.Path(stdin).read_bytes()):
         kind = kinds[number]
