@@ -5,8 +5,7 @@ T' stands for 2,495,329,851,600: a daughter with T', fed wholly, has the factor 
 """
 
 from opening_edges import bad_books
-from packing import pack_book, pack_feed, pack_member
-from small_books import T1, branched, daughter, falling, line, parent, split, widest
+from small_books import T1, branched, daughter, line, parent, split, widest
 
 
 def text(*lines):
@@ -56,7 +55,7 @@ def first_wrong():
     yield text(quarters, "100 1.000E+00 2.500E-01 2.500E-01 2.501E-01",
                "100 1.000E+00 2.499E-01 2.500E-01 2.500E-01"), branched(), said(10, 0, 2, "2 3")
     yield text(quarters.replace("2.5", "3.5"), quarters), branched(), said(5, 0, 3, "1 1")
-    yield text(*["0 1.000E+00"] * 99, "0 9.999E-01", *["0 1.000E+00"] * 99, "0 1.001E+00"), parent(), said(198, 0, 2, "100 0")
+    yield text(*["0 1.000E+00"] * 11, "0 9.999E-01", "0 1.000E+00", "0 1.001E+00"), parent(), said(12, 0, 2, "12 0")
     yield text("0" + " 1.000E+00" * 9 + " 9.000E-01" + " 1.000E+00" * 6), line(*[100_000] * 15), said(15, 0, 1, "1 9")
     yield text("0" + " 1.000E+00" * 15 + " 0.000E+00"), line(*[100_000] * 15), said(15, 0, 1, "1 15")
 
@@ -65,8 +64,7 @@ def counts_of_lines():
     """1 to 200 lines. A chain of the gas alone has nothing that depends on the rate."""
     for count in (1, 2, 200):
         yield ONE * count, parent(), said(count, 0, 0)
-    for count in (201, 256):
-        yield ONE * count, parent(), refused(24)
+    yield ONE * 201, parent(), refused(24)
     yield b"", parent(), refused(24)
     yield ONE * 199 + text("0 9.000E-01"), parent(), said(199, 0, 1, "200 0")
     yield ONE * 200 + text("0 9.000E-01"), parent(), refused(24)
@@ -112,8 +110,7 @@ def rates():
         yield text(f"{rate} 1.000E+00 5.000E-01"), daughter(T=T1), refused(24)
     for rate in ("00", "01", "0100", "0100000", "00000000100", "0" * 1_000 + "5"):
         yield text(f"{rate} 1.000E+00"), parent(), refused(24)
-    for rate in ("", "+0", "-0", "+100", "-1", "1,000", "1.00", "0.18", "1e2", "0x64", "1_000", "a", "1 000", "1:",
-                 "1/", "1\t"):
+    for rate in ("", "+0", "-0", "+100", "1,000", "0.18", "1e2", "0x64", "1_000", "1 000", "1:", "1/"):
         yield text(f"{rate} 1.000E+00"), parent(), refused(24)
     good = "100 1.000E+00"
     for bad in ("100001 1.000E+00", "0100 1.000E+00", "18446744073709551716 1.000E+00"):
@@ -130,13 +127,11 @@ def rates():
 
 def entries():
     """Every text that is nearly an entry's. The gas alone has G, and a table of it nothing else."""
-    for entry in ("1.000E-00", "0.000E-00", "1.000E+05", "1.000E+01", "0.000E+01", "9.999E+99", "0.500E+00",
-                  "0.999E+00", "0.001E+00", "0.968E-01", "0.000E-05", "0.000E-01", "0.000E-99", "1.000e+00",
-                  "5.000e-01", "1,000E+00", "1.000E 00", "1.000E000", "1.0000E+0", "1.000E+0", "1.000E+000", "1.000E-1",
-                  "1.000E-001", "10.00E-01", "1.00E+00", "1E+00", "1", "1.000", "1000E+00", "+1.000E+00", "-1.000E+00",
-                  "-1.00E+00", "-0.00E+00", ".1000E+01", "1.000E+0O", "1.000D+00", ":.000E+00", "/.000E+00",
-                  "1./00E+00", "1.0:0E+00", "1.00/E+00", "1.000E-:0", "1.000E-0:", "1.000E-/1", "1.000E-1/",
-                  "1.000E,00", "NaN", "0", "0.9968", "1.000E+00,"):
+    for entry in ("1.000E-00", "0.000E-00", "1.000E+05", "1.000E+01", "0.000E+01", "0.500E+00", "0.001E+00", "0.968E-01",
+                  "0.000E-05", "0.000E-01", "0.000E-99", "1.000e+00", "1,000E+00", "1.000E 00", "1.000E000", "1.0000E+0",
+                  "1.000E+0", "1.000E+000", "1.000E-1", "1.000E-001", "10.00E-01", "1.00E+00", "1E+00", "1.000", "+1.000E+00",
+                  "-1.00E+00", "-0.00E+00", ".1000E+01", "1.000E+0O", ":.000E+00", "/.000E+00", "1./00E+00", "1.0:0E+00",
+                  "1.00/E+00", "1.000E-:0", "1.000E-0:", "1.000E-/1", "1.000E-1/", "1.000E,00", "NaN", "0", "0.9968"):
         yield text(f"0 {entry}"), parent(), refused(24)
     # In the last place and in the first, beside good lines.
     for entry in ("1.000E-00", "0.500E+00", "0.000E-05", "5.000E+05"):
@@ -151,16 +146,14 @@ def entries():
 def bytes_of():
     """Every byte counts: line ends, blanks, zero bytes, and bytes over 127."""
     good = b"100 1.000E+00 5.000E-01"
-    for table in (good, good + b"\r\n", good + b"\r", good + b" \n", b" " + good + b"\n", good + b"\t\n",
-                  good + b"\n\n", b"\n" + good + b"\n", b"\n", b"\r\n", b" ", b" \n", b"100\n", b"100 \n", b"100  \n",
-                  b"100", good.replace(b" ", b"  ", 1) + b"\n", good.replace(b" 5", b"  5") + b"\n",
-                  good.replace(b" ", b"\t") + b"\n", good.replace(b" 5", b"\t5") + b"\n",
-                  good.replace(b" 5", b",5") + b"\n", good.replace(b" ", b"") + b"\n", good + b"\0", good + b"\n\0",
-                  b"\0" + good + b"\n", good + b"\0\n", good.replace(b" 5", b"\0005") + b"\n",
-                  b"\xef\xbb\xbf" + good + b"\n", good + b"\n\xff", good + b"\n\x1a", good + b"\n ",
-                  good + b"\xc2\xa0\n", good.replace(b" 5", b"\xa05") + b"\n",
-                  good.replace(b"-", b"\xe2\x88\x92") + b"\n", b"\xb1" + good[1:] + b"\n", good[:-1] + b"\xb1\n",
-                  b"\xff", good.replace(b"E", b"\xc5") + b"\n", b"rate " + good + b"\n", good + b"\n100"):
+    for table in (good, good + b"\r\n", good + b"\r", good + b" \n", b" " + good + b"\n", good + b"\t\n", good + b"\n\n",
+                  b"\n" + good + b"\n", b"\n", b"\r\n", b" ", b"100\n", b"100 \n", b"100  \n", b"100",
+                  good.replace(b" ", b"  ", 1) + b"\n", good.replace(b" 5", b"  5") + b"\n",
+                  good.replace(b" 5", b"\t5") + b"\n", good.replace(b" 5", b",5") + b"\n", good.replace(b" ", b"") + b"\n",
+                  good + b"\0", good + b"\n\0", b"\0" + good + b"\n", good.replace(b" 5", b"\0005") + b"\n",
+                  b"\xef\xbb\xbf" + good + b"\n", good + b"\n\x1a", good + b"\n ", good.replace(b" 5", b"\xa05") + b"\n",
+                  good.replace(b"-", b"\xe2\x88\x92") + b"\n", b"\xb1" + good[1:] + b"\n", good[:-1] + b"\xb1\n", b"\xff",
+                  good.replace(b"E", b"\xc5") + b"\n", good + b"\n100"):
         yield table, daughter(T=T1), refused(24)
     yield good + b"\n", daughter(T=T1), said(2, 0, 0)
     two = good + b"\n" + good
@@ -179,14 +172,10 @@ def grounds():
         yield b"0 1.000E+00", book, refused(number)
     for number, book in dict(bad_books()).items():
         yield ONE, book, refused(number)
-        yield b"", book, refused(number)
         yield text("100001 1.000E+00"), book, refused(number)
-    yield ONE * 201, b"", refused(9)
     yield ONE * 201, split(50_000, 50_001), refused(18)
-    for book in (parent(), daughter(), widest(), falling(1 << 39)):
+    for book in (parent(), daughter(), widest()):
         yield b"", book, refused(24)
-        yield b"\n", book, refused(24)
-    yield b"", pack_book([pack_member(1), pack_member(1, first=1)], [pack_feed(100_000, 0)]), refused(24)
     # Two of them: the first in checking order.
     yield HALF, daughter(0, from_=1), refused(14)
     yield HALF, daughter(100_001, W=0), refused(12)
