@@ -3,7 +3,8 @@ against the reference; R-2's share over every accepted pair of years;
 that a job in whole hours, restated in quarters, keeps its verdict, its level and its refusal;
 R-3's nine characters of a factor against a search through everything that can be printed;
 R-5's minutes by hand, without rounding, until nothing changes any more, and over a change of rate;
-and R-6's lowest rate by hand, at both ends and with other rates in the job.
+R-6's lowest rate by hand, at both ends and with other rates in the job;
+and R-8's marks by hand and point by point, the form of an entry byte by byte, and two lines of document 000.
 
     test_reference.py
 """
@@ -602,6 +603,83 @@ def test_halves():
         start, length = rng.spread(0, 300), rng.between(0, 60)
         for rates in (range(start, start + length), range(300), range(0, 100_001, 1_000)):
             assert ref.first_below_by_halves(rates, job, book, C) == ref.first_below(rates, job, book, C)
+
+
+# ---- Tables from elsewhere (R-8) -----------------------------------------------------------------
+
+EXAMPLES = pathlib.Path(__file__).resolve().parents[2] / "examples"
+
+
+def marked(book, *lines):
+    """The words of the text: how many are right, close and wrong, and where the first wrong one is."""
+    text = "".join(line + "\n" for line in lines).encode("ascii")
+    ref.check_marks(text, book)
+    return [line.split(" ", 1)[1] for line in ref.marks_answer(text, book).splitlines()]
+
+
+def test_marks_by_hand():
+    """G / 2 at rate 100. At 6,300 it is 2^34 grains, which end the half units of 1.562E-02 and 1.563E-02; the interval goes on
+    for two grains."""
+    chain = one_feed_book()
+    for entry, words in (("5.000E-01", ["2", "0", "0", "none"]), ("4.999E-01", ["1", "0", "1", "1 1"]),
+                         ("5.001E-01", ["1", "0", "1", "1 1"]), ("0.000E+00", ["1", "0", "1", "1 1"])):
+        assert marked(chain, f"100 1.000E+00 {entry}") == words
+    for entry, words in (("1.561E-02", ["1", "0", "1", "1 1"]), ("1.562E-02", ["1", "1", "0", "none"]),
+                         ("1.563E-02", ["2", "0", "0", "none"]), ("1.564E-02", ["1", "0", "1", "1 1"])):
+        assert marked(chain, f"6300 1.000E+00 {entry}") == words
+    assert marked(chain, "100 1.000E+00 5.000E-01", "200 9.999E+00 5.000E-01") == ["2", "0", "2", "2 0"]
+
+
+def test_marks_of_actinon():
+    """Table A-1 of document 000 at 0.1 and 0.18 per hour. Worked elsewhere: six right, six wrong, Po-215 at 0.1 the first."""
+    lines = ("10 1.000E+00 9.968E-01 9.201E-01 9.154E-01 9.023E-01 2.500E-03",
+             "18 1.000E+00 1.000E+00 8.648E-01 8.569E-01 8.371E-01 2.400E-03")
+    assert marked((EXAMPLES / "actinon.book").read_bytes(), *lines) == ["6", "0", "6", "1 1"]
+
+
+def test_marks_point_by_point():
+    """Every half unit with ends at quarters of a grain, up to 5 grains, and every interval of whole grains among them: the mark
+    is what a look at every eighth of a grain says."""
+    for least, most in itertools.combinations([ref.Fraction(k, 4) for k in range(21)], 2):
+        printed = ref.Printed((least + most) / 2 / G, (most - least) / G)
+        for low, high in itertools.combinations_with_replacement(range(6), 2):
+            inside = [least <= ref.Fraction(k, 8) <= most for k in range(8 * low, 8 * high + 1)]
+            word = "right" if all(inside) else "close" if any(inside) else "wrong"
+            assert ref.mark(printed, low, high) == word, (least, most, low, high)
+
+
+def test_form_of_entries():
+    """Each byte of some entries replaced by each of the 256: what is accepted is d.dddE-dd, d.dddE+00 or zero, of that value."""
+    for entry in (b"1.000E+00", b"0.000E+00", b"9.999E-01", b"5.078E-10", b"1.234E-99"):
+        for at, byte in itertools.product(range(9), range(256)):
+            word = entry[:at] + bytes([byte]) + entry[at + 1 :]
+            try:
+                printed = ref.read_entry(word)
+            except ref.Refused as refusal:
+                assert refusal.number == 24 and not NINE.fullmatch(word.decode("latin-1")), word
+            else:
+                text = word.decode("ascii")
+                assert NINE.fullmatch(text) and printed.share == ref.Fraction(text), word
+                assert printed.unit == ref.Fraction(1, 1_000 * 10 ** int(text[-2:])), word
+
+
+def test_rates_of_a_text():
+    """What is accepted is how R-3 writes a rate of up to 100,000, and nothing else that Python takes for a number."""
+    for v in (*range(1_200), 9_999, 10_000, 65_536, 99_999, 100_000):
+        assert ref.read_rate(str(v).encode()) == v
+    for word in (b"", b"00", b"01", b"+1", b"-1", b"-0", b" 1", b"1 ", b"1_0", b"1.0", b"1e2", b"100001", b"9" * 5_000):
+        assert marked(parent_book(), word.decode() + " 1.000E+00") == ["24"], word
+
+
+def test_own_tables():
+    """Nothing that R-3 writes for the same book is wrong."""
+    rng = draws.Random(0x4F776E)
+    for _ in range(120):
+        case = rng.one_of((draws.random_case, draws.thin_case, draws.capped_case))(rng)
+        ref.check_own_table([draws.random_rate(rng) for _ in range(3)], draws.book_of(case))
+    for chain in ("actinon", "thoron", "radon"):
+        table, book = ((EXAMPLES / f"{chain}.{kind}").read_bytes() for kind in ("table", "book"))
+        assert ref.marks_answer(table, book).endswith("wrong 0\nfirst none\n")
 
 
 def main():
