@@ -55,13 +55,13 @@ def by_one(rng, entry):
         return rng.one_of(("5.000E-04", "1.000E-03", "1.000E-12", "1.000E-99"))
     digits += rng.one_of((-1, 1))
     if digits == 999:
-        return formed(9_999, places + 1)
+        return formed(9_999, min(99, places + 1))
     return formed(min(digits, 9_999), places)
 
 
 def by_exponent(rng, entry):
     digits, places = parts_of(entry)
-    return formed(digits, max(0, places + rng.one_of((-1, 1)))) if digits else rng.one_of(("1.000E-02", "9.999E-04"))
+    return formed(digits, min(99, max(0, places + rng.one_of((-1, 1))))) if digits else rng.one_of(("1.000E-02", "9.999E-04"))
 
 
 def by_digit(rng, entry):

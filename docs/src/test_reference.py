@@ -20,6 +20,7 @@ import draws
 import reference as ref
 from packing import bits, pack_book, pack_feed, pack_job, pack_member
 from plain_help import answer_help
+from recorded import MARKS, read_cases
 from tally import run_tests, say_passed
 
 T1 = 2_495_329_851_600  # the document's T'
@@ -669,6 +670,19 @@ def test_rates_of_a_text():
         assert ref.read_rate(str(v).encode()) == v
     for word in (b"", b"00", b"01", b"+1", b"-1", b"-0", b" 1", b"1 ", b"1_0", b"1.0", b"1e2", b"100001", b"9" * 5_000):
         assert marked(parent_book(), word.decode() + " 1.000E+00") == ["24"], word
+
+
+def test_form_of_texts():
+    """The recorded tables, those with a good book, against the whole form in one expression."""
+    entry = rb"( ([1-9]\.[0-9]{3}E(\+00|-(0[1-9]|[1-9][0-9]))|0\.000E\+00))"
+    met = {True: 0, False: 0}
+    for body, said in read_cases(MARKS):
+        text, book = MARKS.unpack(body)
+        if not said.startswith("refused") or said == "refused 24\n":
+            form = rb"((0|[1-9][0-9]{0,4}|100000)" + entry + b"{%d}" % book[0] + rb"\n){1,200}"
+            assert bool(re.fullmatch(form, text)) == (not said.startswith("refused")), text
+            met[said.startswith("refused")] += 1
+    assert min(met.values()) > 150, met
 
 
 def test_own_tables():
