@@ -24,8 +24,8 @@
 extern "C" {
 #endif
 
-/* The version of this header: major * 1,000,000 + minor * 1,000 + patch, so that 8,000 is 0.8.0. */
-#define JELMORAND_VERSION 8000
+/* The version of this header: major * 1,000,000 + minor * 1,000 + patch, so that 9,000 is 0.9.0. */
+#define JELMORAND_VERSION 9000
 
 /* The version of the library, in the same form. What this header says holds where both have the same major and minor number and the
  * library's patch number is not lower. Ask once, before any other call, where the library is a shared object:
@@ -73,10 +73,10 @@ enum jelmorand_unit { JELMORAND_PCI_PER_L = 0, JELMORAND_PCI_PER_M3 = 1, JELMORA
 #define JELMORAND_WORKER {0, 0, 0, 0, 250, 25, 32, 60}
 
 /* The grounds for refusal: number, name and sentence, in the order in which they are checked, save that 22 comes straight after 3,
- * and 23 straight after 18. A factor call makes checks 3 and 9 to 19, a report 1 to 18 and 21, its figures 1 to 19, a table 3, 9 to
- * 18, 20 and 21, the factors after periods 3, 22 and 9 to 19, the lowest rate of a job 1 to 18. Check 23 is made where a second set
- * of coefficients is lent, and only there. A later version of the library may have more: a number that is not in this list is a
- * refusal all the same. */
+ * and 23 and 24 straight after 18. A factor call makes checks 3 and 9 to 19, a report 1 to 18 and 21, its figures 1 to 19, a table 3,
+ * 9 to 18, 20 and 21, the factors after periods 3, 22 and 9 to 19, the lowest rate of a job 1 to 18, the marks of a table 9 to 18 and
+ * 24. Check 23 is made where a second set of coefficients is lent, and only there. A later version of the library may have more: a
+ * number that is not in this list is a refusal all the same. */
 #define JELMORAND_REFUSALS(GROUND) \
     GROUND(1, JELMORAND_JOB_TOO_SHORT, \
            "the job has fewer than 48 bytes") \
@@ -123,7 +123,9 @@ enum jelmorand_unit { JELMORAND_PCI_PER_L = 0, JELMORAND_PCI_PER_M3 = 1, JELMORA
     GROUND(22, JELMORAND_PERIODS_OUT_OF_RANGE, \
            "the list of periods has an odd length, or does not have 1 to 32 periods of 1 to 1,440 minutes each") \
     GROUND(23, JELMORAND_SECOND_SET_OUT_OF_RANGE, \
-           "the second set does not have exactly 20 bytes for each member, or one of its numbers exceeds 4,000,000,000")
+           "the second set does not have exactly 20 bytes for each member, or one of its numbers exceeds 4,000,000,000") \
+    GROUND(24, JELMORAND_TABLE_NOT_OF_FORM, \
+           "the table is not 1 to 200 lines of the printed form, each a rate of at most 100,000 and an entry for each member")
 
 /* The names with their numbers. */
 #define JELMORAND_NAMED(number, name, sentence) name = number,

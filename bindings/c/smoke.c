@@ -237,7 +237,7 @@ static void check_version(void)
 
 static void check_sentences(void)
 {
-    static const int64_t unknown[] = {0, 24, -1, INT64_MAX};
+    static const int64_t unknown[] = {0, 25, -1, INT64_MAX};
     JELMORAND_REFUSALS(ROW)
     expect(strcmp(jelmorand_refusal_sentence(21), "the text is longer than the lent buffer") == 0, "the sentence of 21");
     for (int i = 0; i < 4; i++)

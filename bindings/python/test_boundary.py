@@ -61,14 +61,14 @@ class Refusals(unittest.TestCase):
     def test_sentences_are_the_header_s(self):
         listed = re.findall(r'GROUND\((\d+), \w+, \\\n +"(.*)"\)', Header.HEADER)
         self.assertEqual({int(number): sentence for number, sentence in listed}, jelmorand.GROUNDS)
-        self.assertEqual(list(jelmorand.GROUNDS), list(range(1, 24)))
+        self.assertEqual(list(jelmorand.GROUNDS), list(range(1, 25)))
 
     def test_unknown_number(self):
         with self.assertRaises(jelmorand.Refused) as caught:
-            _refusals.answered(-24)
+            _refusals.answered(-25)
         refused = caught.exception
-        self.assertEqual(str(refused), "refused 24: a ground that this version does not know")
-        self.assertEqual(pickle.loads(pickle.dumps(refused)).number, 24)
+        self.assertEqual(str(refused), "refused 25: a ground that this version does not know")
+        self.assertEqual(pickle.loads(pickle.dumps(refused)).number, 25)
 
     def test_what_is_raised(self):
         with self.assertRaises(jelmorand.Refused) as caught:

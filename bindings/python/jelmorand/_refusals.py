@@ -18,8 +18,8 @@ def _grounds() -> Dict[int, str]:
 
 
 GROUNDS = _grounds()
-"""The grounds for refusal by number, in checking order save that 22 comes straight after 3 and 23 straight after 18, in the words
-of the C header."""
+"""The grounds for refusal by number, in checking order save that 22 comes straight after 3, and 23 and 24 straight after 18, in the
+words of the C header."""
 
 
 class Refused(ValueError):

@@ -89,7 +89,7 @@ mod tests {
     fn negative_answers_are_refusals() {
         assert_eq!((answered(0), answered(5)), (Ok(0), Ok(5)));
         assert_eq!(answered(-3), Err(Refusal::RateTooHigh));
-        assert_eq!(answered(-24), Err(Refusal::Other(24)));
+        assert_eq!(answered(-25), Err(Refusal::Other(25)));
         assert_eq!(answered(i64::MIN), Err(Refusal::Other(u32::MAX)));
     }
 }

@@ -5,8 +5,8 @@ use core::fmt;
 /// Lists the grounds once: the enum with its documentation, the list of all, and each one's number and sentence.
 macro_rules! grounds {
     ($($name:ident = $number:literal, $sentence:literal;)*) => {
-        /// Why a call is refused, in checking order save that 22 comes straight after 3 and 23 straight after 18, each with its
-        /// number.
+        /// Why a call is refused, in checking order save that 22 comes straight after 3, and 23 and 24 straight after 18,
+        /// each with its number.
         #[derive(Clone, Copy, Debug, PartialEq, Eq, Hash)]
         #[non_exhaustive]
         pub enum Refusal {
@@ -70,6 +70,7 @@ grounds! {
     BufferTooShort = 21, "the text is longer than the lent buffer";
     PeriodsOutOfRange = 22, "the list of periods has an odd length, or does not have 1 to 32 periods of 1 to 1,440 minutes each";
     SecondSetOutOfRange = 23, "the second set does not have exactly 20 bytes for each member, or one of its numbers exceeds 4,000,000,000";
+    TableNotOfForm = 24, "the table is not 1 to 200 lines of the printed form, each a rate of at most 100,000 and an entry for each member";
 }
 
 impl fmt::Display for Refusal {

@@ -27,7 +27,7 @@ fn refusals_are_the_header_s() {
     let known: Vec<_> =
         Refusal::ALL.iter().zip(&named).map(|(refusal, name)| (refusal.number(), &name[..], refusal.sentence())).collect();
     assert_eq!(known, rows());
-    assert_eq!(known.len(), 23);
+    assert_eq!(known.len(), 24);
 }
 
 #[test]
@@ -40,7 +40,7 @@ fn number_and_ground_are_one() {
 
 #[test]
 fn unknown_refusal_keeps_its_number() {
-    for number in [0, 24, u32::MAX] {
+    for number in [0, 25, u32::MAX] {
         let refusal = Refusal::from_number(number);
         assert_eq!((refusal, refusal.number()), (Refusal::Other(number), number));
         assert_eq!(refusal.to_string(), format!("a ground that this version does not know, number {number}"));
