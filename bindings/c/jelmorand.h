@@ -3,9 +3,10 @@
  * Link with libjelmorand.a or libjelmorand.so (x86-64 Linux). All calls but jelmorand_refusal_sentence are proved to answer what is
  * said here for every input, on the condition that a C caller must keep and that nothing checks: each pointer is aligned for its
  * type, and has at least as many elements behind it as the length after it says, so it may be null where that length is 0;
- * `figures` and `set`, which have no length, are never null; and what `out`, `figures`, `factors` and `set` point to overlaps
- * nothing else that is passed. A length is at most PTRDIFF_MAX bytes. None of them allocates, blocks or keeps a pointer, and all may
- * be called from several threads at once. Of the stack a call for factors takes under 2 KB, the others under 3 KB, as measured.
+ * `figures`, `set` and `marks`, which have no length, are never null; and what `out`, `figures`, `factors`, `set` and `marks` point
+ * to overlaps nothing else that is passed. A length is at most PTRDIFF_MAX bytes. None of them allocates, blocks or keeps a pointer,
+ * and all may be called from several threads at once. Of the stack a call for factors or for marks takes under 2 KB, the others under
+ * 3 KB, as measured.
  *
  * Every call answers an int64_t: the answer itself where it is not negative, and minus the number of the refusal otherwise. So a
  * refusal is met by  if (answer < 0),  and this one by  if (answer == -JELMORAND_BOOK_TOO_SHORT).
@@ -227,6 +228,27 @@ int64_t jelmorand_screen_with(const uint8_t *job, size_t job_len, const uint8_t 
  * for every text. */
 int64_t jelmorand_table(const uint32_t *rates, size_t rates_len, const uint8_t *book, size_t book_len, uint8_t *out,
                         size_t out_len);
+
+/* The marks of a table that comes from elsewhere: which of its entries agree with a chain book.
+ *
+ * text: a table in the form that jelmorand_table writes, and nothing else: 1 to 200 lines, their rates in any order. A line is a
+ * rate in hundredths of an air change per hour, 0 to 100,000 without leading zeros, then a space and an entry for each member of the
+ * book, then a line feed. An entry is d.dddE-dd or d.dddE+00, first digit 1 to 9 and dd from 01 to 99, or 0.000E+00.
+ * book: the bytes of the chain book.
+ * marks: five places. The first three are for how many entries are right, close and wrong, in this order; the last two for the line,
+ * from 1, and the member, from 0, of the first wrong entry in reading order, and both are 0 where none is wrong.
+ *
+ * The exact factor of member i is somewhere from the grains that jelmorand_factors gives to 2i grains above them, and at most the
+ * parent's. An entry is right where all of that range, its ends too, is within half a unit of the entry's last printed place; wrong
+ * where nothing of it is, fractions of a grain included; and close otherwise. What is just half a unit away is within it. So the
+ * exact factor is within half a unit of a right entry, and not of a wrong one. Half a unit of 0.000E+00 is 0.0005 of the parent's.
+ * What jelmorand_table writes of the same book is never wrong.
+ *
+ * Accepted, it fills `marks` and answers how many entries it has marked, so right, close and wrong together: for each line the
+ * number of members.
+ * Refused, it answers minus the refusal's number, and leaves `marks` as it was. The book is looked at first. A text that is not of
+ * the form is refused with JELMORAND_TABLE_NOT_OF_FORM, and so is one with a rate that is too high. */
+int64_t jelmorand_marks(const uint8_t *text, size_t text_len, const uint8_t *book, size_t book_len, uint64_t marks[5]);
 
 /* The factor of every member of a chain book after periods of airing, minute by minute from a shut room: there the parent gas has
  * 1,099,511,627,776 grains, as it has always, and every other member 0.
