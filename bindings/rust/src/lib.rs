@@ -63,6 +63,11 @@
 //!
 //! let table = jelmorand::table(&[18, 100], &book)?;
 //! assert_eq!(table, "18 1.000E+00\n100 1.000E+00\n");
+//!
+//! // A table from elsewhere, whose second line has less of the gas than there is.
+//! let marks = jelmorand::marks(b"18 1.000E+00\n100 9.990E-01\n", &book)?;
+//! assert_eq!((marks.right, marks.close, marks.wrong), (1, 0, 1));
+//! assert_eq!(marks.first, Some(jelmorand::Place { line: 2, member: 0 }));
 //! # Ok::<(), jelmorand::Refusal>(())
 //! ```
 #![cfg_attr(not(feature = "std"), no_std)]
@@ -75,6 +80,7 @@ mod calls;
 mod coefficients;
 mod job;
 mod library;
+mod marks;
 mod periods;
 mod refusal;
 mod report;
@@ -87,6 +93,7 @@ pub use calls::{factors, factors_after, lowest_rate, lowest_rate_with, report_in
 pub use calls::{report, table};
 pub use coefficients::{CoefficientSet, Coefficients, COEFFICIENTS_LENGTH};
 pub use job::{Exposure, Group, Job, Kind, Medium, Unit, JOB_LENGTH};
+pub use marks::{marks, Marks, Place};
 pub use refusal::Refusal;
 pub use report::{screen, screen_with, Factors, Report, Verdict, WorkingLevels};
 pub use version::{library_version, VERSION};

@@ -30,6 +30,7 @@ extern "C" {
         out: *mut u8,
         out_len: usize,
     ) -> i64;
+    fn jelmorand_marks(text: *const u8, text_len: usize, book: *const u8, book_len: usize, marks: *mut [u64; 5]) -> i64;
     fn jelmorand_factors_after(
         periods: *const u32,
         periods_len: usize,
@@ -68,6 +69,11 @@ pub fn report(job: &[u8], out: &mut [u8]) -> i64 {
 pub fn table(rates: &[u32], book: &[u8], out: &mut [u8]) -> i64 {
     version::check();
     unsafe { jelmorand_table(rates.as_ptr(), rates.len(), book.as_ptr(), book.len(), out.as_mut_ptr(), out.len()) }
+}
+
+pub fn marks(text: &[u8], book: &[u8], marks: &mut [u64; 5]) -> i64 {
+    version::check();
+    unsafe { jelmorand_marks(text.as_ptr(), text.len(), book.as_ptr(), book.len(), marks) }
 }
 
 pub fn factors_after(periods: &[u32], book: &[u8], out: &mut [u64]) -> i64 {
