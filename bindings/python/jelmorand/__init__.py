@@ -16,6 +16,7 @@ from ._calls import LowestRate, factors, factors_after, lowest_rate, lowest_rate
 from ._coefficients import Coefficients, CoefficientSet
 from ._jobs import JOB_LENGTH, RESIDENTIAL, WORKER, Exposure, Group, Job, Kind, Medium, Unit
 from ._limits import COEFFICIENTS_LENGTH, MAX_MEMBERS, MAX_MINUTES, MAX_PERIODS, MAX_RATES, REPORT_ROOM, TABLE_ROOM
+from ._marks import Marks, Place, marks
 from ._refusals import GROUNDS, Refused
 from ._screening import Report, WorkingLevels, screen, screen_with
 from ._version import __version__
@@ -40,7 +41,9 @@ __all__ = [
     "Job",
     "Kind",
     "LowestRate",
+    "Marks",
     "Medium",
+    "Place",
     "Refused",
     "Report",
     "Unit",
@@ -50,6 +53,7 @@ __all__ = [
     "factors_after",
     "lowest_rate",
     "lowest_rate_with",
+    "marks",
     "report",
     "screen",
     "screen_with",

@@ -4,7 +4,7 @@ from __future__ import annotations
 
 import ctypes
 import operator
-from typing import TYPE_CHECKING, Iterable, SupportsIndex, Tuple
+from typing import TYPE_CHECKING, Iterable, SupportsIndex, Tuple, Union
 
 if TYPE_CHECKING:
     from _typeshed import ReadableBuffer as Bytes
@@ -15,12 +15,17 @@ RATE = "a rate is a whole number of hundredths of an air change per hour"
 MINUTES = "a number of minutes is a whole number"
 
 
-def plain(data: Bytes, what: str) -> bytes:
+def plain(data: Bytes, what: str, kinds: str = "bytes") -> bytes:
     """The bytes of anything that has the buffer protocol."""
     try:
         return memoryview(data).tobytes()
     except TypeError:
-        raise TypeError(f"{what} is bytes, not {type(data).__name__}") from None
+        raise TypeError(f"{what} is {kinds}, not {type(data).__name__}") from None
+
+
+def plain_text(text: Union[str, Bytes], what: str) -> bytes:
+    """The same, or those of a str, of which a character that is not ASCII becomes bytes that are not, a lone surrogate too."""
+    return text.encode("utf-8", "surrogatepass") if isinstance(text, str) else plain(text, what, "a str or bytes")
 
 
 def whole(number: SupportsIndex, what: str, most: int) -> int:

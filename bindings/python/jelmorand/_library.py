@@ -21,6 +21,7 @@ _ARGUMENTS = {
     "jelmorand_factors": [_NUMBER, _BYTES, _SIZE, _PLACES, _SIZE],
     "jelmorand_factors_after": [_NUMBERS, _SIZE, _BYTES, _SIZE, _PLACES, _SIZE],
     "jelmorand_table": [_NUMBERS, _SIZE, _BYTES, _SIZE, _ROOM, _SIZE],
+    "jelmorand_marks": [_BYTES, _SIZE, _BYTES, _SIZE, _PLACES],
     "jelmorand_report": [_BYTES, _SIZE, _ROOM, _SIZE],
     "jelmorand_screen": [_BYTES, _SIZE, ctypes.POINTER(Figures), _PLACES, _SIZE],
     "jelmorand_screen_with": [_BYTES, _SIZE, _BYTES, _SIZE, _NUMBERS, ctypes.POINTER(Figures), _PLACES, _SIZE],
