@@ -80,11 +80,28 @@ static void check_tables(void)
     }
 }
 
+static void check_marks(void)
+{
+    static const uint8_t line[] = "0 1.000E+00 1.000E+00\n";
+    uint8_t bytes[128];
+    for (int which = 0; which < 4; which++) {
+        const size_t text_length = which & 1 ? sizeof line - 1 : 0;
+        const size_t length = which & 2 ? one_feed(bytes, 0) : 0;
+        const uint8_t *text = text_length > 0 ? line : NULL;
+        const uint8_t *book = length > 0 ? bytes : NULL;
+        uint64_t marks[5];
+        const int64_t read = text_length > 0 ? 2 : -JELMORAND_TABLE_NOT_OF_FORM;
+        const int64_t answer = jelmorand_marks(text, text_length, book, length, marks);
+        expect(answer == (length > 0 ? read : -JELMORAND_BOOK_TOO_SHORT), "the marks of null lists");
+    }
+}
+
 int main(void)
 {
     check_lists();
     check_jobs();
     check_second_sets();
     check_tables();
+    check_marks();
     return counted("nulls");
 }

@@ -18,9 +18,10 @@
 /* In bytes. */
 #define FACTORS_LIMIT 1536
 #define AFTER_LIMIT 2048
+#define MARKS_LIMIT 2048
 #define JOB_LIMIT 3072
 
-enum call { NONE, FACTORS, AFTER, REPORT, FIGURES, TABLE, LOWEST, FIGURES_WITH, LOWEST_WITH, CALLS };
+enum call { NONE, FACTORS, AFTER, REPORT, FIGURES, TABLE, MARKS, LOWEST, FIGURES_WITH, LOWEST_WITH, CALLS };
 
 static _Alignas(64) uint8_t space[SPACE];
 static ucontext_t here, there;
@@ -33,11 +34,14 @@ static uint8_t job[65536];
 static size_t job_length;
 static uint8_t second[JELMORAND_MAX_MEMBERS * JELMORAND_COEFFICIENTS_LENGTH];
 static size_t second_length;
+static uint8_t table[JELMORAND_TABLE_ROOM];
+static size_t table_length;
 
 static uint64_t factors[JELMORAND_MAX_MEMBERS];
 static struct jelmorand_figures figures;
 static uint8_t text[JELMORAND_TABLE_ROOM];
 static uint32_t set;
+static uint64_t marks[5];
 static volatile int64_t answer;
 
 /* The book of the job; one that is too short has none. */
@@ -53,6 +57,18 @@ static void lend_own_numbers(void)
     second_length = 0;
     for (size_t i = 0; i < members && i < JELMORAND_MAX_MEMBERS; i++, second_length += JELMORAND_COEFFICIENTS_LENGTH)
         memcpy(second + second_length, job + numbers_at(i), JELMORAND_COEFFICIENTS_LENGTH);
+}
+
+/* Lends the book's own table to be marked. On every second line a 9 stands over the rate's first digit, so that few entries there are
+ * right. A book that is refused has no table. */
+static void lend_own_table(void)
+{
+    const int64_t length = jelmorand_table(rates, JELMORAND_MAX_RATES, job + JELMORAND_JOB_LENGTH, book_length(), table, sizeof table);
+    int lines = 0;
+    table_length = length > 0 ? (size_t)length : 0;
+    for (size_t i = 1; i < table_length; i++)
+        if (table[i - 1] == '\n' && ++lines % 2 == 1)
+            table[i] = '9';
 }
 
 static void make_call(void)
@@ -73,6 +89,9 @@ static void make_call(void)
         break;
     case TABLE:
         answer = jelmorand_table(rates, JELMORAND_MAX_RATES, book, book_length(), text, JELMORAND_TABLE_ROOM);
+        break;
+    case MARKS:
+        answer = jelmorand_marks(table, table_length, book, book_length(), marks);
         break;
     case LOWEST:
         answer = jelmorand_lowest_rate(job, job_length);
@@ -162,6 +181,7 @@ int main(int count, char **words)
         rates[i] = i * 500;
     for (; next_job(cases); jobs++) {
         lend_own_numbers();
+        lend_own_table();
         for (enum call which = FACTORS; which < CALLS; which++) {
             size_t bytes = used(which);
             if (bytes > most[which])
@@ -170,11 +190,11 @@ int main(int count, char **words)
     }
     fclose(cases);
     printf("stack: the most over %d recorded jobs: a factor call %zu bytes, factors after periods %zu, "
-           "a whole job with its report %zu, its figures %zu, a table of 200 rates %zu, a lowest rate %zu\n",
-           jobs, most[FACTORS], most[AFTER], most[REPORT], most[FIGURES], most[TABLE], most[LOWEST]);
+           "a whole job with its report %zu, its figures %zu, a table of 200 rates %zu, its marks %zu, a lowest rate %zu\n",
+           jobs, most[FACTORS], most[AFTER], most[REPORT], most[FIGURES], most[TABLE], most[MARKS], most[LOWEST]);
     printf("stack with a second set of coefficients: a job's figures %zu bytes, a lowest rate %zu\n", most[FIGURES_WITH],
            most[LOWEST_WITH]);
-    return jobs == 0 || most[FACTORS] >= FACTORS_LIMIT || most[AFTER] >= AFTER_LIMIT || most[REPORT] >= JOB_LIMIT
-        || most[FIGURES] >= JOB_LIMIT || most[LOWEST] >= JOB_LIMIT || most[FIGURES_WITH] >= JOB_LIMIT
-        || most[LOWEST_WITH] >= JOB_LIMIT;
+    return jobs == 0 || most[FACTORS] >= FACTORS_LIMIT || most[AFTER] >= AFTER_LIMIT || most[MARKS] >= MARKS_LIMIT
+        || most[REPORT] >= JOB_LIMIT || most[FIGURES] >= JOB_LIMIT || most[LOWEST] >= JOB_LIMIT
+        || most[FIGURES_WITH] >= JOB_LIMIT || most[LOWEST_WITH] >= JOB_LIMIT;
 }
