@@ -1,5 +1,5 @@
-/* Marks tables by books of document 01's rows, at the ends of what an entry holds, of every form that is none, and says which answer is
- * wrong, if one is. */
+/* Marks tables by books of document 01's rows, at the ends of what an entry holds, and texts that are not of the form, and says which
+ * answer is wrong, if one is. */
 #include "rows.h"
 
 #define RIGHT 0
@@ -66,8 +66,8 @@ static int mark_of(const char *line, uint64_t half_life)
     return left.marks[RIGHT] == 2 ? RIGHT : left.marks[CLOSE] == 1 ? CLOSE : WRONG;
 }
 
-/* The factor of the half-lives in their order is 3 grains under 5 parts of 32 to 1 grain over, and the exact one up to 2 grains higher.
- * Just these 5 parts are where 1.562E-01 ends and 1.563E-01 begins. */
+/* The factor of the half-lives in their order is 3 grains under 5 parts of 32 to 1 grain over, and the exact one up to 2 grains
+ * higher. Just these 5 parts are where 1.562E-01 ends and 1.563E-01 begins. */
 static void check_ends(void)
 {
     static const uint64_t half_lives[] = {UINT64_C(13474781198826), UINT64_C(13474781198733), UINT64_C(13474781198641),

@@ -1,15 +1,17 @@
-//! What the tests and the timing share: a rewrite of documents 01 and 02 in plain Rust, random books, jobs, second sets, tables and
-//! periods, the recorded jobs, answers as texts, and how a time is taken.
+//! What the tests and the timing share: a rewrite of documents 01 and 02 in plain Rust, random books, jobs, second sets, tables,
+//! tables from elsewhere and periods, the recorded jobs, answers as texts, and how a time is taken.
 #![allow(dead_code)]
 
 pub mod books;
 pub mod edge_jobs;
+pub mod elsewhere;
 pub mod fan_jobs;
 pub mod lowest_speed;
 pub mod periods;
 pub mod plain;
 pub mod plain_job;
 pub mod plain_lowest;
+pub mod plain_marks;
 pub mod plain_minutes;
 pub mod plain_second;
 pub mod plain_table;

@@ -4,12 +4,13 @@
 pub const REPORT: u8 = 0;
 pub const LOWEST: u8 = 1;
 const PARTNER: u8 = 5;
+const MARKS: u8 = 6;
 
 fn path(file: &str) -> String {
     format!("{}/../../crates/recorded/{file}", env!("CARGO_MANIFEST_DIR"))
 }
 
-/// Every recorded body of a kind, which but for the last kind is a job.
+/// Every recorded body of a kind, which but for the last two kinds is a job.
 pub fn jobs(kind: u8) -> Vec<Vec<u8>> {
     let bytes = std::fs::read(path("stdin")).expect("the recorded cases");
     let (mut jobs, mut rest) = (Vec::new(), &bytes[..]);
@@ -24,14 +25,21 @@ pub fn jobs(kind: u8) -> Vec<Vec<u8>> {
     jobs
 }
 
-/// Every recorded second set, with its job. A set is as long as it says, or as what is there.
+/// Every recorded second set, with its job.
 pub fn second_sets() -> Vec<(Vec<u8>, Vec<u8>)> {
-    let parted = |body: Vec<u8>| {
-        let (length, rest) = body.split_first_chunk().expect("a length");
-        let (set, job) = rest.split_at(rest.len().min(u32::from_le_bytes(*length) as usize));
-        (set.to_vec(), job.to_vec())
-    };
-    jobs(PARTNER).into_iter().map(parted).collect()
+    jobs(PARTNER).iter().map(|body| parted(body)).collect()
+}
+
+/// Every recorded table from elsewhere, with its book.
+pub fn tables() -> Vec<(Vec<u8>, Vec<u8>)> {
+    jobs(MARKS).iter().map(|body| parted(body)).collect()
+}
+
+/// The first of two parts is as long as the body says, or as what is there.
+fn parted(body: &[u8]) -> (Vec<u8>, Vec<u8>) {
+    let (length, rest) = body.split_first_chunk().expect("a length");
+    let (first, second) = rest.split_at(rest.len().min(u32::from_le_bytes(*length) as usize));
+    (first.to_vec(), second.to_vec())
 }
 
 /// The recorded lines of the lowest rates. They follow the reports, each of which ends with its refusal or its working

@@ -47,12 +47,18 @@ fn share_and_half_life(random: &mut Random, before: u64, wanted: u64) -> Option<
 
 /// A book in which each member feeds the next, and the factors that its members have at rate 100.
 pub fn chosen_book(random: &mut Random) -> (Vec<u8>, Vec<u64>) {
+    chosen_book_under(random, 0)
+}
+
+/// The same with each member's factor so many grains lower, times its number.
+pub fn chosen_book_under(random: &mut Random, step: u64) -> (Vec<u8>, Vec<u64>) {
     let mut wanted: Vec<u64> = (0..15).map(|_| near_middle(random)).collect();
     wanted.sort_by(|a, b| b.cmp(a));
     let (mut members, mut feeds) = (member(1, 0), Vec::new());
     let mut factors = vec![GRAINS as u64];
-    for grains in wanted {
+    for middle in wanted {
         let before = factors[factors.len() - 1];
+        let grains = middle.saturating_sub(step * factors.len() as u64);
         let found = if grains < before { share_and_half_life(random, before, grains) } else { None };
         if let Some((share, half_life)) = found {
             feeds.extend(share.to_le_bytes());
