@@ -13,7 +13,7 @@ import tempfile
 import unittest
 
 import jelmorand
-from jelmorand import _library, _limits, _refusals, _screening, _version
+from jelmorand import _library, _limits, _marks, _refusals, _screening, _version
 
 ROOT = pathlib.Path(__file__).resolve().parents[2]
 
@@ -49,6 +49,9 @@ class Header(unittest.TestCase):
     def test_sets(self):
         named = ", ".join(f"JELMORAND_{one.name}_SET = {one.value}" for one in jelmorand.CoefficientSet)
         self.assertIn(f"enum jelmorand_coefficient_set {{ {named} }};", self.HEADER)
+
+    def test_marks(self):
+        self.assertIn(f"uint64_t marks[{len(_marks._Numbers())}]);", self.HEADER)
 
     def test_declarations(self):
         """Every call that the header declares has its arguments' types here, and no other has."""

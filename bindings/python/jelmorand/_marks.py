@@ -13,6 +13,8 @@ from ._refusals import answered
 if TYPE_CHECKING:
     from _typeshed import ReadableBuffer as Bytes
 
+_Numbers = ctypes.c_uint64 * 5
+
 
 class Place(NamedTuple):
     """Where an entry stands in a table: the line, from 1, and the member, from 0, the parent gas."""
@@ -48,7 +50,7 @@ def marks(text: Union[str, Bytes], book: Bytes) -> Marks:
     Raises Refused where the book is not accepted, or the text is not of the form or has a rate over 100,000. What `table` writes of
     the same book is never wrong.
     """
-    table, data, numbers = plain_text(text, "a table"), plain(book, "book"), (ctypes.c_uint64 * 5)()
+    table, data, numbers = plain_text(text, "a table"), plain(book, "book"), _Numbers()
     answered(LIBRARY.jelmorand_marks(table, len(table), data, len(data), numbers))
     right, close, wrong, line, member = numbers
     return Marks(right, close, wrong, Place(line, member) if wrong else None)
