@@ -126,11 +126,15 @@ class Tables(unittest.TestCase):
         self.assertEqual(jelmorand.marks("540 1.000E+00 1.562E-01\n", BOOK), Marks(1, 1, 0, None))
         self.assertEqual(jelmorand.marks("540 1.000E+00 1.563E-01\n", BOOK), Marks(2, 0, 0, None))
 
-    def test_what_is_not_of_the_form(self):
+    def test_texts_not_of_the_form(self):
         for text in ("", "\n", TABLE[:-1], TABLE + "\n", TABLE.replace("\n", "\r\n"), TABLE.replace(" ", "  "), TABLE + "\0", TABLE[:22] * 201):
             self.assertEqual(self.refused(text), 24, text)
+
+    def test_rates_not_of_the_form(self):
         for rate in ("100001", "0100", "-1", "+100", "0.18", str(2**32 + 100), str(2**64 + 100)):
             self.assertEqual(self.refused(TABLE.replace("\n100 ", f"\n{rate} ")), 24, rate)
+
+    def test_entries_not_of_the_form(self):
         for entry in ("5.000E-00", "5.000E+05", "0.500E+00", "0.000E-05", "5.000e-01", "0.5"):
             self.assertEqual(self.refused(TABLE.replace("5.000E-01", entry)), 24, entry)
 

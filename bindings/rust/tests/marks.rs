@@ -111,10 +111,17 @@ fn own_tables_are_never_wrong() {
     }
 }
 
-/// Of a book the parent gas and the first member alone, which it feeds.
-fn first_two(book: &[u8]) -> Vec<u8> {
-    let feeds = 8 + 32 * usize::from(book[0]);
-    [&[2, 1], &book[2..72], &book[feeds..feeds + 8]].concat()
+/// A book of the parent gas and one member that it feeds, and an entry for that at rate 100: as it is printed, or one next to it.
+fn two_members(random: &mut Random) -> (Vec<u8>, String) {
+    let step = 2 * random.within(0, 1);
+    let (book, factors) = chosen_book_under(random, step);
+    if factors.len() < 2 {
+        return two_members(random);
+    }
+    let feeds = 8 + 32 * factors.len();
+    let entry = plain_table::entry(factors[1]);
+    let entry = if random.one_in(3) { entry } else { neighbour(&entry, random.one_in(2)) };
+    ([&[2, 1], &book[2..72], &book[feeds..feeds + 8]].concat(), entry)
 }
 
 /// Whether the exact factor of that member at rate 100 is within half a unit of the entry's last place. The factor is the share times
@@ -133,23 +140,16 @@ fn holds_exact_factor(entry: &str, book: &[u8]) -> bool {
 fn marks_speak_of_the_exact_factor() {
     let mut random = Random::fresh("exact factor");
     let mut met = Met::default();
-    while met.marked.iter().sum::<usize>() < PROMISES {
-        let step = 2 * random.within(0, 1);
-        let (book, factors) = chosen_book_under(&mut random, step);
-        if factors.len() < 2 {
-            continue;
-        }
-        let (book, entry) = (first_two(&book), plain_table::entry(factors[1]));
-        for entry in [neighbour(&entry, false), neighbour(&entry, true), entry] {
-            let line = format!("100 1.000E+00 {entry}\n");
-            let answer = marks(line.as_bytes(), &book);
-            let Marks { right, wrong, .. } = answer.expect("a table of the form");
-            let held = holds_exact_factor(&entry, &book);
-            assert!(if right == 2 { held } else { wrong == 0 || !held }, "{line:?}, book {book:?}");
-            met.add(&answer);
-        }
+    for _ in 0..PROMISES {
+        let (book, entry) = two_members(&mut random);
+        let line = format!("100 1.000E+00 {entry}\n");
+        let answer = marks(line.as_bytes(), &book);
+        let Marks { right, wrong, .. } = answer.expect("a table of the form");
+        let held = holds_exact_factor(&entry, &book);
+        assert!(if right == 2 { held } else { wrong == 0 || !held }, "{line:?}, book {book:?}");
+        met.add(&answer);
     }
-    println!("exact factor: right, close, wrong {:?}", met.marked);
+    println!("exact factor: the parent's entry and one more, right, close, wrong {:?}", met.marked);
     assert!(met.marked.iter().all(|n| *n > 0), "some mark never came up");
 }
 
