@@ -127,7 +127,8 @@ class Tables(unittest.TestCase):
         self.assertEqual(jelmorand.marks("540 1.000E+00 1.563E-01\n", BOOK), Marks(2, 0, 0, None))
 
     def test_texts_not_of_the_form(self):
-        for text in ("", "\n", TABLE[:-1], TABLE + "\n", TABLE.replace("\n", "\r\n"), TABLE.replace(" ", "  "), TABLE + "\0", TABLE[:22] * 201):
+        changes = (TABLE.replace("\n", "\r\n"), TABLE.replace(" ", "  "), TABLE[:22] * 201)
+        for text in ("", "\n", TABLE[:-1], TABLE + "\n", TABLE + "\0", *changes):
             self.assertEqual(self.refused(text), 24, text)
 
     def test_rates_not_of_the_form(self):

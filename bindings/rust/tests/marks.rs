@@ -1,5 +1,5 @@
-//! The marks of a table: against the plain rewrite on random tables, on entries whose ends are next to what the factor may be, and on the
-//! recorded ones; and against what R-8 of document 02 promises.
+//! The marks of a table: against the plain rewrite on random tables, on entries that end next to where the exact factor may be, and
+//! on the recorded tables; and against what R-8 of document 02 promises.
 mod common;
 
 use common::books::{any_book, book_of, good_book};

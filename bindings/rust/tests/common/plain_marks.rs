@@ -1,5 +1,5 @@
-//! The marks of a table, rewritten from R-8 of document 02 with 128-bit numbers: both ends of what an entry holds are multiplied out, so
-//! that nothing is rounded.
+//! The marks of a table, rewritten from R-8 of document 02 with 128-bit numbers: both ends of what an entry holds are multiplied
+//! out, so that nothing is rounded.
 use super::plain::{balance, read, Chain, GRAINS};
 use jelmorand::{Marks, Place};
 
@@ -69,8 +69,8 @@ fn lines(text: &[u8], members: usize) -> Option<Vec<Line>> {
     parted.into_iter().map(|text| line(text, members)).collect()
 }
 
-/// The mark of an entry, of whose member the exact factor has `low` to `high` grains. Both are taken 2·10^(places + 3) times, which makes
-/// half a unit of the entry's last place one G. A product that has no room is more than any entry's end.
+/// The mark of an entry, of whose member the exact factor has `low` to `high` grains. Both are taken 2·10^(places + 3) times, which
+/// makes half a unit of the entry's last place one G. A product that has no room is more than any entry's end.
 fn mark(entry: &Entry, low: u64, high: u64) -> Mark {
     let scale = 10u128.saturating_pow(entry.places + 3);
     let [low, high] = [low, high].map(|grains| scale.saturating_mul(2 * u128::from(grains)));
