@@ -53,6 +53,10 @@ GROUNDS = {
         "The second set is not exactly 20 bytes for each member, or has a number over 4,000,000,000.",
         "the text of the set: its member lines; encode it again with the text of this chain",
     ),
+    24: (
+        "The table is not 1 to 200 lines of the printed form, each a rate of at most 100,000 and an entry for each member.",
+        "the lines of the table; docs/CHECK.md says how one is written",
+    ),
 }
 
 
