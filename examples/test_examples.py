@@ -1,11 +1,13 @@
 #!/usr/bin/env python3
 """Each example's text turns into its bytes and back, and its stored output is what the reference says of it: the report
 of its job and, of the three gases, the table of its book at the rates of source 000's radon table. So does the second set of
-coefficients, and its output is what the reference says of the workroom with the set's numbers in its book.
+coefficients, and its output is what the reference says of the workroom with the set's numbers in its book. Each entry of the
+table from elsewhere is marked by the reference as the exact factor of its book has it.
 
 Where the programs are built, they are run too: on each example by its name and from standard input, and on what they
 cannot read.
 """
+import itertools
 import pathlib
 import subprocess
 import sys
@@ -18,6 +20,7 @@ SOURCES = HERE.parent / "docs" / "src"
 REFERENCE = SOURCES / "reference.py"
 GASES = ("radon", "thoron", "actinon")
 SET = HERE / "partner.txt"
+FROM_ELSEWHERE = HERE / "a-1.table"
 
 sys.path[:0] = [str(SOURCES), str(BOOK.parent)]
 import reference
@@ -70,6 +73,21 @@ def check_set():
     said = partner_answer(second, (HERE / "workroom.job").read_bytes())
     assert said == SET.with_suffix(".out").read_text() and "verdict below\n" in said
     assert "verdict above\n" in (HERE / "workroom.out").read_text()  # by its own
+
+
+def agrees(entry, share):
+    """Whether a share is within half a unit of an entry's last place."""
+    return abs(reference.Fraction(entry) - share) <= reference.Fraction(10) ** (int(entry[6:]) - 3) / 2
+
+
+def check_from_elsewhere():
+    """Each of its entries is right or wrong as the exact factor of the book has it."""
+    table, book = FROM_ELSEWHERE.read_bytes(), (HERE / "actinon.book").read_bytes()
+    entries = [entry for line in table.decode().splitlines() for entry in line.split()[1:]]
+    exact = [share for rate in rates_of(table) for share in reference.exact_factors(rate, reference.read_book(book))]
+    words = [mark.word for mark in reference.marks_call(table, book)]
+    assert words == ["right" if agrees(*pair) else "wrong" for pair in zip(entries, exact)] and rates_of(table) == [10, 18]
+    assert reference.marks_answer(table, book) == "right 6\nclose 0\nwrong 6\nfirst 1 1\n"
 
 
 def program(name):
@@ -246,7 +264,46 @@ def check_opening_refusals(radon):
     check_text("opening", 0, 5)
 
 
-CHECKS = {"opening": check_opening, "table": check_table_program, "fan": check_fan, "screen": check_screen, "partner": check_partner}
+def marked(book, table):
+    """What `marks` is to say of a table by a book."""
+    return answered(reference.marks_answer(table, book.read_bytes()))
+
+
+def check_marks():
+    """Each table with each chain's book, texts at the edge of the form, and what cannot be read."""
+    books = [HERE / f"{gas}.book" for gas in GASES]
+    for book, table in itertools.product(books, sorted(HERE.glob("*.table"))):
+        assert output("marks", book, table) == marked(book, table.read_bytes()), (book, table, newest("marks"))
+    with tempfile.TemporaryDirectory() as folder:
+        check_marked_texts(HERE / "actinon.book", pathlib.Path(folder))
+    check_marks_unread()
+
+
+def check_marks_unread():
+    book, table, usage = HERE / "actinon.book", FROM_ELSEWHERE, "usage: marks BOOKFILE TABLEFILE"
+    check_unreadable("marks", table)
+    assert output("marks", book, HERE / "none") == unanswered(f"{HERE / 'none'}: No such file or directory (os error 2)")
+    assert output("marks", book, HERE) == unanswered(f"{HERE}: Is a directory (os error 21)")
+    for words in ((), (book,), (book, table, table)):
+        assert output("marks", *words) == unanswered(usage), words
+    check_help("marks", usage, book)
+
+
+def check_marked_texts(book, folder):
+    """The grounds of the book come first, whatever the text is."""
+    table, path, cut = FROM_ELSEWHERE.read_bytes(), folder / "table", folder / "book"
+    cut.write_bytes(book.read_bytes()[:-1])
+    rates = [table.replace(b"10 ", rate) for rate in (b"0 ", b"010 ", b"100000 ", b"100001 ", b"4294967306 ", b"10  ")]
+    entries = [table.replace(b"9.968E-01", entry) for entry in (b"9.999E+00", b"9.968E-00", b"9.968e-01", b"0.000E+00", b"0.000E-01")]
+    ends = [b"", b"\n", table[:-1], table + b"\n", table.replace(b"\n", b"\r\n"), table + bytes(100)]
+    for text in rates + entries + ends + [table * 100, table * 101, table * 3_000]:
+        path.write_bytes(text)
+        assert output("marks", book, path) == marked(book, text), (text[:200], newest("marks"))
+        assert output("marks", cut, path) == answered("refused 11\n")
+
+
+CHECKS = {"opening": check_opening, "table": check_table_program, "fan": check_fan, "screen": check_screen, "partner": check_partner,
+          "marks": check_marks}
 
 
 def check_programs():
@@ -269,8 +326,9 @@ def main():
     for gas in GASES:
         check_table(HERE / f"{gas}.txt")
     check_set()
-    print(f"{len(texts)} examples agree, {len(GASES)} tables and a set")
-    say_passed(len(texts) + len(GASES) + 1 + check_programs())
+    check_from_elsewhere()
+    print(f"{len(texts)} examples agree, {len(GASES)} tables, a set and a table from elsewhere")
+    say_passed(len(texts) + len(GASES) + 2 + check_programs())
 
 
 if __name__ == "__main__":
