@@ -63,6 +63,11 @@ def table(words):
     return said if isinstance(said, str) else f"refused {said}\n"
 
 
+def marks(words):
+    book, table = words
+    return reference.marks_answer(bytes_in(table), bytes_in(book))
+
+
 def opening(words):
     name, *words = words
     book, every = bytes_in(name), None

@@ -93,7 +93,7 @@ def test_usage(home):
     status, out, said = home.run("--help")
     assert (status, said) == (0, "") and max(map(len, out.splitlines())) <= 100
     commands = [line.split()[1] for line in out.splitlines()]
-    assert commands == ["screen", "rooms", "fan", "table", "opening", "encode", "decode", "explain", "--help"]
+    assert commands == ["screen", "rooms", "fan", "table", "check", "opening", "encode", "decode", "explain", "--help"]
     assert home.run("help") == home.run("-h") == (status, out, said)
     for word in ("--help", "-h"):
         for name, line in zip(commands[:-1], out.splitlines()):
@@ -116,7 +116,7 @@ def test_usage(home):
 def test_manual(home):
     """The manual has the form of each command."""
     manual = (ROOT / "docs" / "COMMAND.md").read_text(encoding="utf-8")
-    for line in home.run("--help")[1].splitlines()[:5]:
+    for line in home.run("--help")[1].splitlines()[:6]:
         form = line.partition("./jelmorand ")[2].partition("  ")[0]
         assert f"| `{form}` |" in manual, form
 

@@ -21,7 +21,7 @@ class Given(NamedTuple):
     """A job or a book as it goes to the programs, and the same bytes read back, which is what is shown of a job."""
 
     data: bytes
-    read: tuple  # the job and the book in the bytes; None where they can't be read, or are not asked for
+    read: tuple  # the job (None of a book alone) and the book in the bytes; None where they can't be read, or are not asked for
     remarks: list
     said: dict = {}  # the text's own words for each line of the job
 
@@ -106,9 +106,17 @@ def book_given(name):
     data = bytes_in(name)
     if not is_bytes(data):
         book = read_text(text_of(data))[1]
-        return Given(all_bytes(None, book), None, said_of(None, book))
+        return Given(all_bytes(None, book), (None, book), said_of(None, book))
     check_no_text(data)
     is_job = is_book(data[JOB:])
     if is_book(data) and is_job:
         raise Failure("fits a book alone and a job with its book; give its text")
     return Given(data[JOB:] if is_job else data, None, [])
+
+
+def member_names(given):
+    """What a message calls each member of a book that was accepted: bytes have numbers alone."""
+    if given.read is None:
+        return [f"member {i}" for i in range(given.data[0])]
+    book = given.read[1]
+    return [book.label(i) for i in range(len(book.members))]

@@ -3,9 +3,9 @@
 SMALL = "no one two three four five six seven eight nine ten eleven twelve thirteen fourteen fifteen sixteen".split()
 
 
-def count(number, word):
-    """`1 year`, `25 years`."""
-    return f"{number:,} {word}" if number == 1 else f"{number:,} {word}s"
+def count(number, word, words=""):
+    """`1 year`, `25 years`; `2 entries`, where the words for several are given."""
+    return f"{number:,} {word}" if number == 1 else f"{number:,} {words or f'{word}s'}"
 
 
 def in_words(number, word):

@@ -10,10 +10,9 @@ import book as tool
 from .building import make_ready
 from .given import book_given, job_given
 from .outcomes import answered, lines_outcome, outcome_of, show_lines
-from .programs import RATE, asked
+from .programs import RATE, STANDARD_INPUT, asked
 from .tool import CLEARED, FAILED, Usage, check_files
 
-STANDARD_INPUT = "/dev/stdin"
 TABLE = re.compile(r"(\d+( \d\.\d{3}E[+-]\d\d)+\n)+")
 FACTORS = re.compile(rf"(factor \d+ \d+\n)+|{TABLE.pattern}")
 

@@ -1,5 +1,6 @@
 """The proved programs' answers. What is not wholly an answer is a failure, and never taken for one."""
 
+import contextlib
 import os
 import re
 import subprocess
@@ -9,6 +10,7 @@ from .building import path_of
 from .tool import Failure
 
 LONGEST = 60  # seconds; an answer takes a few thousandths of one
+STANDARD_INPUT = "/dev/stdin"  # as a file's name
 REPORT = re.compile(
     r"(?:factor \d+ \d+\n)+"
     r"concentration (?P<concentration>\d+)\n"
@@ -56,6 +58,15 @@ def asked(name, data, *words, lent=()):
     return done.stdout.decode("ascii", errors="replace")
 
 
+@contextlib.contextmanager
+def in_memory(data):
+    """The number of an open file with these bytes, for a program that takes a file: one in memory, so that none is left behind."""
+    with open(os.memfd_create("lent"), "wb") as file:
+        file.write(data)
+        file.flush()
+        yield file.fileno()
+
+
 def matched(name, form, text):
     """The parts of an answer; a refusal is raised, and anything else is none."""
     refused, parts = REFUSED.fullmatch(text), form.fullmatch(text)
@@ -83,11 +94,9 @@ def report_of(text):
 
 
 def partner_lines(data, second):
-    """What `partner` writes of a job by a set. It takes the set as a file: one in memory, so that none is left behind."""
-    with open(os.memfd_create("set"), "wb") as file:
-        file.write(second)
-        file.flush()
-        return asked("partner", data, f"/dev/fd/{file.fileno()}", lent=[file.fileno()])
+    """What `partner` writes of a job by a set, which it takes as a file."""
+    with in_memory(second) as lent:
+        return asked("partner", data, f"/dev/fd/{lent}", lent=[lent])
 
 
 def by_second_set(text, data):
