@@ -27,7 +27,7 @@ def put_prover(home):
     (home.folder / "bin").mkdir()
     (home.folder / "bin" / "rt").write_text(PROVER)
     (home.folder / "bin" / "rt").chmod(0o755)
-    for name in ("screen", "fan", "partner"):
+    for name in ("screen", "fan", "partner", "table", "marks"):
         home.program(name).rename(home.folder / "crates" / name / "made")
     return home.folder / "bin"
 
@@ -70,6 +70,23 @@ def test_partner(home):
     home.program("partner").unlink()
     status, _, said = home.run(*lent[:-1], "wrong.txt", path=path)
     assert status == 2 and said.startswith("wrong.txt, line 2: ") and asked(home) == []  # before anything is built
+
+
+@house_test
+def test_check(home):
+    """A table from elsewhere asks for `marks`, and for `table` where its wrong entries are shown; `marks` is run with two files."""
+    path = put_prover(home)
+    files = "examples/a-1.table", "examples/actinon.txt"
+    assert home.run("check", "--report", *files, path=path)[0] == 1
+    runs = [line for line in asked(home) if " run" in line]
+    assert len(runs) == 1 and runs[0].startswith("marks run -- /") and runs[0].count(" /") == 2
+    assert not home.program("table").exists()
+    assert home.run("check", *files, path=path)[0] == 1
+    assert [line.split()[:2] for line in asked(home) if " run" in line] == [["table", "run"]]
+    assert home.run("check", *files, path=path)[0] == 1 and asked(home) == []
+    home.program("marks").unlink()
+    status, _, said = home.run("check", "none.table", files[1], path=path)
+    assert (status, said) == (2, "none.table: No such file or directory\n") and asked(home) == []  # before anything is built
 
 
 def test_order():
