@@ -23,10 +23,12 @@ sys.path.insert(0, str(ROOT / "tools"))
 
 from command.building import is_late  # noqa: E402
 
-PAGES = ("README.md", *(f"docs/{name}.md" for name in ("COMMAND", "ROOMS", "TEXT", "FAN", "TABLE", "OPENING", "COEFFICIENTS", "REFUSALS")))
+PAGES = ("README.md", *(f"docs/{name}.md" for name in (
+    "COMMAND", "ROOMS", "TEXT", "FAN", "TABLE", "CHECK", "OPENING", "COEFFICIENTS", "REFUSALS")))
 INDENT = "    "
 COMMAND = INDENT + "$ "
 PROGRAMS = ("screen", "fan", "table", "opening")
+MORE = {" --coefficients ": "partner", "./jelmorand check ": "marks"}  # what is asked where this stands in a command
 
 
 def parts_of(page):
@@ -49,9 +51,9 @@ def is_written(line, after):
 
 
 def programs_in(command):
-    """The built programs that a command needs; the one command may ask any of them, and `partner` for a second set alone."""
+    """The built programs that a command needs; the one command may ask any of them, and some only for what they alone answer."""
     if "./jelmorand" in command:
-        return (*PROGRAMS, "partner") if "--coefficients" in command else PROGRAMS
+        return *PROGRAMS, *(program for said, program in MORE.items() if said in command)
     return re.findall(r"crates/(\w+)/out/", command)
 
 
