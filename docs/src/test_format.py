@@ -1,4 +1,5 @@
-"""docs/FORMAT.md against the packer and the reference: its dumps, texts and offsets, its concentrations, its entries of a table.
+"""docs/FORMAT.md against the packer and the reference: its dumps, texts and offsets, its concentrations, its entries of a
+table and what such entries are read back as.
 
     test_format.py
 """
@@ -98,6 +99,28 @@ def test_entries():
     members = [pack_member(1)] + [pack_member(1, first=i) for i in range(1, 16)]
     longest = ref.table_call([100_000] * 200, pack_book(members, [pack_feed(1, 0)] * 15), 40_000)
     assert len(longest) == 33_400 and "than 33,400 bytes" in PAGE
+
+
+def exact(written):
+    """Such as 5 × 10^-103."""
+    powers = (part.partition("^") for part in written.split(" × "))
+    return math.prod(Fraction(base) ** int(power or 1) for base, _, power in powers)
+
+
+def test_read_back():
+    """Nine characters are read as the page says, and each form that it says is none is refused."""
+    rows = re.findall(r"^\| (\d\.\d{3}E[+-]\d\d) \| (\S+) \| (.+) \|$", PAGE, re.MULTILINE)
+    assert len(rows) == 5
+    for characters, share, half in rows:
+        printed = ref.read_entry(characters.encode())
+        assert (printed.share, printed.unit / 2) == (exact(share), exact(half)), characters
+    none = re.search("Anything else has not the form: (.*), a carriage return", PAGE, re.DOTALL)[1]
+    line = f"0 {rows[1][0]}\n"
+    book = pack_book([pack_member(1)], [])
+    assert ref.marks_answer(line.encode(), book) == "right 1\nclose 0\nwrong 0\nfirst none\n"
+    assert len(re.findall("`(.{9})`", none)) == 4
+    for word in re.findall("`(.{9})`", none):
+        assert ref.marks_answer(line.replace(rows[1][0], word).encode(), book) == "refused 24\n", word
 
 
 def field_sizes(form):
