@@ -1,7 +1,7 @@
 """The marks of a table: against the recorded cases and the reference, on tables that the library writes and changes of them, and what
 Python takes for a table.
 
-    JELMORAND_SO=target/libjelmorand.so python3 bindings/python/test_marks.py
+    JELMORAND_SO=target/libjelmorand.so python3 bindings/python/test_marking.py
 """
 
 import array
