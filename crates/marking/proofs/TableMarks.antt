@@ -9,7 +9,7 @@ use Rattle.std.proofs.lemmas.Bool.{cases_order}
 use native.Mathlib.Nat.{add-zero, zero-mul}
 use mathlib.Core.Bool.{or-true}
 use borrow.Author.Tests.{lt-ltb, le-ltb}
-use Rattle.std.proofs.lemmas.List.{get_or-drop}
+use Rattle.std.proofs.lemmas.List.{get_or-drop, nil_from_length}
 use Rattle.numbers.specs.Tests.{outside}
 use Rattle.numbers.proofs.Tested.{passes_at, none_passes}
 use Rattle.book.specs.Fields.{members}
@@ -29,10 +29,6 @@ pub record SoFar (book text rest : List ℕ) (number : ℕ) (marks : Marks) : Ty
   pub few : number ≤ max_rates
   pub formed : (k : ℕ) → k < number → line_of_form (members book) (get_or (lines text) k []) ≡ true
   pub told : marks ≡ tally_of (members book) (mark_at book text) (number * members book)
-
-none_left : (bytes : List ℕ) → length bytes ≡ 0 → bytes ≡ []
-none_left [] empty = refl
-none_left (byte ∷ bytes) empty = absurd (omega arith)
 
 pub begin :
     (book text : List ℕ) → SoFar book text text 0 (record { right = 0; close = 0; wrong = 0; first = None })
@@ -112,7 +108,7 @@ module _ {book text rest : List ℕ} {number : ℕ} {marks : Marks} (so : SoFar 
     all_read : number ≡ length (lines text)
     all_read =
         let none : length (lines rest) ≡ 0 =
-        ap (λ bytes. length (lines bytes)) (none_left rest empty) ∙ ap length no_lines
+        ap (λ bytes. length (lines bytes)) (nil_from_length rest empty) ∙ ap length no_lines
         in
         omega (arith, left_length, so.turns)
 

@@ -34,7 +34,7 @@ module _ (share : Share) where
   zero_is : share.thousandths ≡ 0 → share.exponent ≡ 0 → of_form share ≡ true
   zero_is d e = rw (d, e) refl
 
-  printable_is : Printable share.thousandths share.exponent → of_form share ≡ true
+  pub printable_is : Printable share.thousandths share.exponent → of_form share ≡ true
   printable_is number =
       rw (
         le-leb 1000 share.thousandths number.first_digit,

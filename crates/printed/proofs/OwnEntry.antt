@@ -3,19 +3,18 @@
 use Prim.Native.Nat.{ℕ, zero, suc, ◌+◌, ◌*◌, ◌^◌, ◌≤◌, ◌<◌}
 use native.Mathlib.Omega.{arith}
 use mathlib.Core.Path.{◌≡◌, refl, sym, ◌∙◌}
-use mathlib.Core.Bool.{true, true≢false, or-true, ◌&&◌}
-use lib.Dec.{eqb}
+use mathlib.Core.Bool.{true, true≢false}
 use borrow.Author.Tests.{le-leb}
 use Rattle.balance.specs.Balance.{G}
 use Rattle.entry.specs.declared.scaling.Share.{Share}
 use Rattle.entry.specs.Form.{form}
 use Rattle.entry.specs.Entry.{thousandths, exponent, entry_of}
-use Rattle.entry.specs.Promises.{Printable}
 use Rattle.entry.proofs.Places.{turn}
 use Rattle.entry.proofs.Promised.{share_rounded, turned}
 use Rattle.printed.specs.Places.{of_form}
 use Rattle.printed.specs.Mark.{within, mark_of}
 use Rattle.printed.specs.declared.mark.Mark.TheVariants.{Wrong}
+use Rattle.printed.proofs.OfForm.{printable_is}
 use Rattle.printed.proofs.Points.{at_low}
 use Rattle.printed.proofs.Promised.{mark_promise}
 
@@ -29,20 +28,11 @@ unfolding own_share entry_of
 own_entry zero = refl
 own_entry (suc n) = refl
 
-printable_form : (share : Share) → Printable share.thousandths share.exponent → of_form share ≡ true
-printable_form share p =
-    rw (
-      le-leb 1000 share.thousandths p.first_digit,
-      le-leb share.thousandths 9999 p.four_digits,
-      le-leb share.exponent 99 p.two_digits,
-    )
-    (or-true (eqb share.thousandths 0 && eqb share.exponent 0))
-
 pub own_of_form : (x : ℕ) → x ≤ G → of_form (own_share x) ≡ true
 unfolding own_share
 own_of_form zero whole = refl
 own_of_form (suc n) whole =
-    printable_form (record { thousandths = thousandths (suc n) (exponent (suc n)); exponent = exponent (suc n) })
+    printable_is (record { thousandths = thousandths (suc n) (exponent (suc n)); exponent = exponent (suc n) })
     (turned (turn (omega arith) whole)).printable
 
 -- Half a unit is what rounding to the nearest leaves.
