@@ -4,11 +4,8 @@ pub mod Bounds
 pub mod Results
 pub mod LargestFactor
 mod Carrying
-mod Guess
-mod Halves
 mod Halving
 mod LimbOrder
-mod HighWord
 mod Limbs
-mod LongDivision
+mod Parts
 mod Scaling

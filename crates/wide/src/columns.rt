@@ -19,9 +19,9 @@ pub(crate) fn limb_sum(x: u32, y: u32) -> u64
     u64::from(x) + u64::from(y)
 }
 
-// The column of a product: one limb times another, which leaves room for two carries.
+// The column of a product: one limb times another.
 pub(crate) fn limb_product(x: u32, k: u32) -> u64
-    ensures { (result ≡ x * k) × (result ≤ 2 ^ 64 - 2 ^ 33 + 1) }
+    ensures { (result ≡ x * k) × (result ≤ 2 ^ 64 - 2 ^ 32) }
 {
     u64::from(x) * u64::from(k)
 }
@@ -44,14 +44,6 @@ pub(crate) fn settle(columns: [u64; 6]) -> Settled
         number: Wide { limbs },
         carry,
     }
-}
-
-// A column with the carry out of the one below it.
-pub(crate) fn carried(column: u64, below: u64) -> u64
-    requires { column ≤ 2 ^ 64 - 2 ^ 32 }
-    ensures { result ≡ column + below / 2 ^ 32 }
-{
-    column + below / 0x1_0000_0000
 }
 
 // The limb that stays in a column once the rest is carried.

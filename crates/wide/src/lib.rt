@@ -4,11 +4,9 @@
 
 mod arithmetic;
 mod columns;
-mod digit;
 mod division;
 mod number;
 mod order;
-mod product;
 mod quotient;
 
 pub use division::{product_quotient, products_quotient};
