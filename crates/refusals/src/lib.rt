@@ -1,9 +1,12 @@
 // The grounds for refusal of documents 01 and 02, one list for every call, and the first that is met.
 #![tactic(auto)]
 
+mod answer;
 mod number;
 
 ghost use Rattle.std.specs.Prelude.{◌≡◌, cond, Ok, Err};
+
+pub use answer::{answer_number, refused_number};
 
 // Why something is refused, in checking order; `refusal_number` of specs/Grounds.antt gives each its number.
 #[derive(Clone, Copy, Debug, PartialEq, Eq)]
