@@ -14,7 +14,7 @@ ghost use Rattle.balance.specs.Promises.{ListPromise};
 
 use book::{AcceptedChain, HeldChain, Rate, check_book, read_chain};
 pub use feeds::inflow_of;
-pub use fill::fill_accepted;
+pub use fill::{fill_accepted, member_factor};
 pub use limits::{DECAY, GRAINS};
 use refusals::{Refusal, refuse_if};
 
