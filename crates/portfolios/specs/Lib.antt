@@ -1,0 +1,4 @@
+pub mod Rows
+pub mod Run
+pub mod Promises
+pub mod Private
