@@ -1,0 +1,2 @@
+-- Definitions that only the contracts of private functions and the proofs cite. No public contract rests on them.
+pub mod Rows
