@@ -1,7 +1,7 @@
 -- The number that a caller in another language gets: that of the call's own answer, the answer itself where it is not
 -- negative, and minus the number of the refusal otherwise.
 use Rattle.refusals.specs.Grounds.{answer_number, refused_number}
-use Rattle.std.specs.Prelude.{ℕ, ◌+◌, ◌*◌, ◌≡◌, List, [], ◌∷◌, ℤ, pos, Result, Ok, Err, Option, Some, None}
+use Rattle.std.specs.Prelude.{ℕ, ◌+◌, ◌*◌, ◌≡◌, List, [], ◌∷◌, length, ℤ, pos, Result, Ok, Err, Option, Some, None}
 use Rattle.std.specs.Option.{ok_or}
 use Rattle.refusals.specs.declared.Refusal.{Refusal}
 use Rattle.refusals.specs.declared.Refusal.TheVariants.{BufferTooShort}
@@ -12,6 +12,7 @@ use Rattle.figures.specs.Promises.{NumbersTold}
 use Rattle.figures.specs.declared.FigureNumbers.{FigureNumbers}
 use Rattle.balance.specs.Factors.{factor_answer}
 use Rattle.minutes.specs.Periods.{periods_answer}
+use Rattle.portfolios.specs.Run.{rates_run}
 use Rattle.text.specs.Answered.{length_written}
 use Rattle.report.specs.Report.{report_of}
 use Rattle.ventilation.specs.Lowest.{lowest_with, lowest_number}
@@ -77,6 +78,10 @@ abbrev pub marks_left : Result Marks Refusal → List ℕ → List ℕ
 marks_left (Ok marks) list = five_numbers marks
 marks_left (Err refusal) list = list
 
--- What the version call answers: version 0.9.0.
+-- What the call for many rates answers: how many of them were run.
+abbrev pub run_number : List ℕ → List ℤ → ℤ
+run_number rates answers = pos (length (rates_run rates answers))
+
+-- What the version call answers: version 0.10.0.
 abbrev pub version : ℕ
-version = 1000000 * 0 + 1000 * 9 + 0
+version = 1000000 * 0 + 1000 * 10 + 0

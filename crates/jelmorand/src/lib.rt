@@ -5,6 +5,9 @@
 ghost use Rattle.std.specs.Prelude.{◌≡◌, ◌<◌, ◌^◌, [], IfOk, length, pos};
 ghost use Rattle.balance.specs.Factors.{factor_list};
 ghost use Rattle.minutes.specs.Periods.{periods_list};
+ghost use Rattle.portfolios.specs.Run.{rates_run, answers_left, rows_left};
+ghost use Rattle.portfolios.specs.Promises.{RowsPromise};
+ghost use Rattle.jelmorand.specs.Answers.{run_number};
 ghost use Rattle.report.specs.Report.{report_of};
 ghost use Rattle.screening.specs.Screening.{answer_of, answer_with};
 ghost use Rattle.figures.specs.Numbers.{lent, set_left, figures_left, factors_left};
@@ -20,7 +23,8 @@ ghost use Rattle.jelmorand.specs.Answers.{marks_number, five_numbers, marks_left
 use figures::{FigureNumbers, screen_numbers};
 use marking::{Marks, Place, mark_table};
 use minutes::factors_after;
-use refusals::Refusal;
+use portfolios::factors_at_rates;
+use refusals::{Refusal, answer_number, refused_number};
 use report::report_job;
 use tables::tabulate;
 use ventilation::lowest_rate_with;
@@ -29,7 +33,7 @@ use ventilation::lowest_rate_with;
 const NO_RATE: i64 = 100_001;
 
 // 1,000,000 times the first part of the version, 1,000 times the second and the third.
-const VERSION: i64 = 9_000;
+const VERSION: i64 = 10_000;
 
 // The version of these calls: one that has every call of a header has at least the header's.
 #[unsafe(no_mangle)]
@@ -37,25 +41,6 @@ pub extern "C" fn jelmorand_version() -> i64
     ensures { result ≡ pos version }
 {
     VERSION
-}
-
-// A refusal as every call answers it: minus its number.
-fn refused(refusal: Refusal) -> i64
-    ensures { result ≡ refused_number refusal }
-{
-    // A refusal's number, a count and a length are below 2^63, so that no cast here cuts anything.
-    -(u64::from(refusal) as i64)
-}
-
-// A count or a length as every call answers it, or its refusal.
-fn number_of(answer: Result<usize, Refusal>) -> i64
-    requires { IfOk answer (λ n. n < 2 ^ 63) }
-    ensures { result ≡ answer_number answer }
-{
-    match answer {
-        Ok(n) => n as i64,
-        Err(refusal) => refused(refusal),
-    }
 }
 
 // The marks as five numbers.
@@ -79,7 +64,7 @@ pub extern "C" fn jelmorand_factors(v: u32, book: &[u8], out: &mut [u64]) -> i64
     ensures answered { result ≡ factors_number v book.now (length out.old) }
     ensures written { out.new ≡ factor_list v book.now out.old }
 {
-    number_of(balance::factors(v, book, out))
+    answer_number(balance::factors(v, book, out))
 }
 
 // The report of a job, to the start of `out`, and its length; where there is no room for all of it that is refused,
@@ -89,7 +74,7 @@ pub extern "C" fn jelmorand_report(job: &[u8], out: &mut [u8]) -> i64
     ensures answered { result ≡ report_number job.now (length out.old) }
     ensures written { out.new ≡ bytes_written (report_of job.now) out.old }
 {
-    number_of(report_job(job, out).ok_or(Refusal::BufferTooShort))
+    answer_number(report_job(job, out).ok_or(Refusal::BufferTooShort))
 }
 
 // The figures of a job, a number each, and the members' factors in the first places of `factors`: how many these are. A
@@ -127,7 +112,27 @@ pub extern "C" fn jelmorand_screen_with(
         ≡ factors_left (lent (answer_with job.now second.now) (length factors.old)) factors.old }
     ensures sound { ScreenPromise job.now second.now result figures.new }
 {
-    number_of(screen_numbers(job, second, set, figures, factors))
+    answer_number(screen_numbers(job, second, set, figures, factors))
+}
+
+// The factors at every rate of a list, each into a row of so many places of `rows`, and what the factor call answers
+// there: n, or minus the number of the refusal, which leaves the row as it was. The answer is how many rates were run,
+// which are those whose answers have a place.
+#[unsafe(no_mangle)]
+pub extern "C" fn jelmorand_factors_at_rates(
+    rates: &[u32],
+    book: &[u8],
+    width: usize,
+    answers: &mut [i64],
+    rows: &mut [u64],
+) -> i64
+    ensures answered { result ≡ run_number rates.now answers.old }
+    ensures answers { answers.new ≡ answers_left rates.now book.now width answers.old rows.old }
+    ensures rows { rows.new ≡ rows_left rates.now book.now width answers.old rows.old }
+    ensures sound { RowsPromise (rates_run rates.now answers.old) book.now width answers.new rows.new }
+{
+    // No list has 2^63 places.
+    factors_at_rates(rates, book, width, answers, rows) as i64
 }
 
 // The table of a book at every rate of a list, to the start of `out`, and its length; a refusal leaves `out` as it was.
@@ -136,7 +141,7 @@ pub extern "C" fn jelmorand_table(rates: &[u32], book: &[u8], out: &mut [u8]) ->
     ensures answered { result ≡ table_number rates.now book.now (length out.old) }
     ensures written { out.new ≡ table_buffer rates.now book.now out.old }
 {
-    number_of(tabulate(rates, book, out))
+    answer_number(tabulate(rates, book, out))
 }
 
 // How a table's entries are marked by a book, five numbers: how many are right, close and wrong, and the line and the
@@ -152,7 +157,7 @@ pub extern "C" fn jelmorand_marks(text: &[u8], book: &[u8], marks: &mut [u64; 5]
             *marks = numbers_of(found);
             (found.right + found.close + found.wrong) as i64
         }
-        Err(refusal) => refused(refusal),
+        Err(refusal) => refused_number(refusal),
     }
 }
 
@@ -163,7 +168,7 @@ pub extern "C" fn jelmorand_factors_after(periods: &[u32], book: &[u8], out: &mu
     ensures answered { result ≡ periods_number periods.now book.now (length out.old) }
     ensures written { out.new ≡ periods_list periods.now book.now out.old }
 {
-    number_of(factors_after(periods, book, out))
+    answer_number(factors_after(periods, book, out))
 }
 
 // The lowest rate at which the verdict on a job is 'below', or 100,001 where no rate gives it.
@@ -187,6 +192,6 @@ pub extern "C" fn jelmorand_lowest_rate_with(job: &[u8], second: &[u8], set: &mu
             *set = u32::from(lowest.set);
             lowest.rate.map_or(NO_RATE, i64::from)
         }
-        Err(refusal) => refused(refusal),
+        Err(refusal) => refused_number(refusal),
     }
 }

@@ -6,6 +6,6 @@ use Rattle.jelmorand.proofs.jelmorand_screen_with.Goals as goal
 
 pub returns-clause-sound : goal.returns-clause-sound
 returns-clause-sound c n e =
-    let fits : FitsSigned w64 c.number_of.result = search rules in
+    let fits : FitsSigned w64 c.answer_number.result = search rules in
     told c.screen_numbers.result n c.screen_numbers.ensures.sound
-    (sym c.number_of.ensures ∙ sym (to_z-of_z w64 c.number_of.result fits) ∙ e)
+    (sym c.answer_number.ensures ∙ sym (to_z-of_z w64 c.answer_number.result fits) ∙ e)
