@@ -2,7 +2,8 @@
 #![tactic(auto)]
 
 use arguments::ended;
-use records::{answer_records, report_case};
+use case_texts::report_case;
+use records::answer_records;
 use std::process::ExitCode;
 
 fn main(rt: HostRuntime) -> ExitCode {

@@ -4,8 +4,9 @@
 #![tactic(auto)]
 
 use arguments::ended;
+use case_texts::factors_case;
 use numbers::u16_at;
-use records::{Shape, answer_cases, factors_case};
+use records::{Shape, answer_cases};
 use std::io::Read;
 use std::process::ExitCode;
 

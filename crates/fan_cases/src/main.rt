@@ -2,7 +2,8 @@
 #![tactic(auto)]
 
 use arguments::ended;
-use records::{answer_records, lowest_case};
+use case_texts::lowest_case;
+use records::answer_records;
 use std::process::ExitCode;
 
 fn main(rt: HostRuntime) -> ExitCode {

@@ -5,8 +5,9 @@
 #![tactic(auto)]
 
 use arguments::ended;
+use case_texts::opening_case;
 use numbers::u16_at;
-use records::{Shape, answer_cases, opening_case};
+use records::{Shape, answer_cases};
 use std::process::ExitCode;
 
 // No recorded case has a longer list, more numbers or a longer book.

@@ -1,4 +1,3 @@
 pub mod Writing
 pub mod Taken
-pub mod Turns
 pub mod Consumed

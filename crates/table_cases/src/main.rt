@@ -4,8 +4,9 @@
 #![tactic(auto)]
 
 use arguments::ended;
+use case_texts::table_case;
 use numbers::{u16_at, u32_at};
-use records::{Shape, answer_cases, table_case};
+use records::{Shape, answer_cases};
 use std::process::ExitCode;
 
 // No recorded case has a longer buffer, more rates or a longer book.
