@@ -11,8 +11,9 @@ number_of Kind.Table = 3
 number_of Kind.Opening = 4
 number_of Kind.Partner = 5
 number_of Kind.Marks = 6
+number_of Kind.Rates = 7
 
 -- The kind of a number, or that no kind has it.
 abbrev pub Names : ℕ → Result Kind UnknownKind → Type 0
 Names number found =
-    MatchResult found (λ kind. number_of kind ≡ number) (λ unknown. (unknown.0 ≡ number) × (6 < number))
+    MatchResult found (λ kind. number_of kind ≡ number) (λ unknown. (unknown.0 ≡ number) × (7 < number))

@@ -19,6 +19,8 @@ pub(crate) enum Kind {
     Partner,
     // A table and a book, as `marks` writes it.
     Marks,
+    // The call for many rates.
+    Rates,
 }
 
 #[derive(Debug, Drop, Error)]
@@ -39,6 +41,7 @@ impl TryFrom<u8> for Kind {
             4 => Ok(Kind::Opening),
             5 => Ok(Kind::Partner),
             6 => Ok(Kind::Marks),
+            7 => Ok(Kind::Rates),
             _ => Err(UnknownKind(number)),
         }
     }

@@ -5,12 +5,13 @@ mod kind;
 mod record;
 
 use arguments::ended;
-use kind::Kind;
-use record::{Record, next_record};
-use records::{
-    answer_all, factors_case, lowest_case, marks_case, opening_case, partner_case, report_case,
+use case_texts::{
+    factors_case, lowest_case, marks_case, opening_case, partner_case, rates_case, report_case,
     table_case,
 };
+use kind::Kind;
+use record::{Record, next_record};
+use records::answer_all;
 use std::alloc::{AllocError, Global};
 use std::process::ExitCode;
 
@@ -35,5 +36,6 @@ fn text_of(alloc: Global, record: &Record) -> Result<Vec<u8>, AllocError> {
         Kind::Opening => opening_case(alloc, &record.body),
         Kind::Partner => partner_case(alloc, &record.body),
         Kind::Marks => marks_case(alloc, &record.body),
+        Kind::Rates => rates_case(alloc, &record.body),
     }
 }
