@@ -22,7 +22,11 @@ from plain_help import answer_help
 from tally import say_passed
 
 CRATES = pathlib.Path(__file__).resolve().parents[2] / "crates"
-CALLS = {"the factor call": ("balance", "factors"), "the call for periods": ("minutes", "factors_after")}
+CALLS = {
+    "the factor call": ("balance", "factors"),
+    "the call for periods": ("minutes", "factors_after"),
+    "the call for many rates": ("portfolios", "factors_at_rates"),
+}
 FACTOR_BITS = 41
 WIDTHS = {"u8": 8, "u16": 16, "u32": 32, "u64": 64, "usize": 64, "i64": 64, "f64": 64, "bool": 8}
 
@@ -61,14 +65,25 @@ WIDE_LISTS = COLUMNS | {
     "wide/src/number.rt": {"limbs: [0, 0, 0, 0, upper(x), low(x)]"},
 }
 
+# The lists that are lent: that of a call for one rate; those of a call for many, whose rows are cut into parts.
+LENT = {"out", "answers", "rows", "front", "back", "a", "b", "c", "d"}
+LENT_PARTS = (
+    r"\b\w+: &mut \[[iu]64\]|&mut (?:answers|rows)\[[^]]*\]|\blet \(\w+, \w+\) = (?:front|back|rows)\.split_at_mut\("
+)
+
+# What a crate that works out factors may change besides: a number of its own, and the sums of four rows.
+OWN = r"let mut \w+(: \w+)? = \d\w*;|let mut sums = Four \{"
+
 # What the crates that work out factors take from the book besides its limits, and what they may do with a chain: take
-# it as a parameter, read it from a book, accept it, ask it and hand it on. One function is lent it before it is
+# it as a parameter, read it from a book, accept it, ask it and hand it on. Some functions are lent it before it is
 # accepted.
-TAKEN = {"AcceptedChain", "HeldChain", "Rate", "check_book", "member_count", "read_chain"}
+TAKEN = {"AcceptedChain", "Feed", "HeldChain", "Rate", "check_book", "member_count", "read_chain"}
+LENT_UNACCEPTED = "factors_read|run_rates|run_next|run_one"
 HANDED = (
-    r"\bchain: AcceptedChain<'_>(?=[,)])|\bfn factors_read\([\w\s:<>(),]*\bchain: &HeldChain<'_>(?=[,)])"
+    r"\bchain: AcceptedChain<'_>(?=[,)])"
+    rf"|\bfn (?:{LENT_UNACCEPTED})\([\w\s:<>(),&[\]]*\bchain: &HeldChain<'_>(?=[,)])"
     r"|\blet chain = read_chain\(book\);"
-    r"|\blet accepted = AcceptedChain \{ chain \};|\bAcceptedChain \{ chain: &chain \}(?=[,)])"
+    r"|\blet accepted = AcceptedChain \{ chain(?:: &\*chain)? \};|\bAcceptedChain \{ chain: &chain \}(?=[,)])"
     r"|\b(chain|accepted)\.(members|scale|half_life|feeds)\(|[(,]\s*&?(chain|accepted)(?=[,)])"
 )
 
@@ -247,16 +262,21 @@ def columns(texts):
                 yield f"{path}: {name} reaches {array}"
 
 
+def lent(words):
+    """Whether the words speak of no list but the lent ones."""
+    named = re.match(r"(\w+): &mut ", words)
+    return not named or named[1] in LENT
+
+
 def written(texts):
-    """What the crates that work out factors write to, or could keep a list in, besides the lent list. A number of their
-    own may change."""
+    """What the crates that work out factors write to, or could keep a list in, besides the lent lists."""
     for path, text in texts.items():
         if not of_factors(path):
             continue
         for target in re.findall(r"([\w.]+)\s*\[[^]]*\]\s*[-+*/|&^%<>]*=(?!=)", text):
-            if target != "out":
+            if target not in LENT | {"let"}:
                 yield f"{path}: {target} is written to"
-        unlent = re.sub(r"out: &mut \[u64\]|let mut \w+(: \w+)? = \d\w*;", "", text)
+        unlent = re.sub(rf"{LENT_PARTS}|{OWN}", lambda kept: "" if lent(kept[0]) else kept[0], text)
         for found in re.findall(r".*(?:mut\b|\b(?:Vec|Box|vec|alloc)\b).*", unlent):
             yield f"{path}: {found.strip()}"
 
@@ -290,8 +310,14 @@ COPIED = "let mut spare = *chain.chain;"
 ACCEPTED = "chain: AcceptedChain<'_>"
 HANDED_ON = f"{ACCEPTED}, out: &mut [u64]"
 NEW = "out[i] = new_factor("
+FOUR = "portfolios/src/four.rt"
+NEXT = "portfolios/src/next.rt"
+RUN = "portfolios/src/run.rt"
+MANY = "portfolios/src/lib.rt"
+ROWS_BEGUN = "a[0] = GRAINS;"
 ACCEPT = "AcceptedChain { chain"
 PRODUCT = "pub fn product_quotient("
+QUOTIENT = "low_word(product(f, k) / u128::from(d))"
 PLANTED = [
     (FILL, BEGUN, f"let mut spare = [0u64; 16]; {BEGUN}"),
     (FILL, BEGUN, f"let mut spare: [u64; 16] = zeros(); {BEGUN}"),
@@ -325,6 +351,17 @@ PLANTED = [
     (PASSING, HANDED_ON, "chain: &HeldChain<'_>, out: &mut [u64]"),
     (PASSING, NEW, "chain.chain.half_lives[i] = new_factor("),
     (PASSING, f"{ACCEPT}: &chain", f"{ACCEPT}: &with_factor(chain, 0, GRAINS)"),
+    (FOUR, ROWS_BEGUN, f"let mut spare = [0u64; 16]; {ROWS_BEGUN}"),
+    (FOUR, ROWS_BEGUN, f"let mut spare = a.to_vec(alloc); {ROWS_BEGUN}"),
+    (FOUR, ROWS_BEGUN, f"let mut spare = chain.chain.half_lives; {ROWS_BEGUN}"),
+    (FOUR, "pub(crate) a: T,", "pub(crate) a: T, pub(crate) spare: [u64; 16],"),
+    (FOUR, "d: &mut [u64],", "d: &mut [u64], spare: &mut [u64],"),
+    (NEXT, "answers: &mut [i64],", "answers: &mut [i64], spare: &mut [i64],"),
+    (NEXT, "AcceptedChain { chain: &*chain }", "AcceptedChain { chain: &with_factor(chain, 0, GRAINS) }"),
+    (NEXT, "rows.len());", "rows.len()); let spare = [0u64; 16];"),
+    (RUN, "let mut at = 0;", "let mut at = 0; let mut spare = rows.to_vec(alloc);"),
+    (RUN, "let mut at = 0;", "let mut at = 0; spare[at] = GRAINS;"),
+    (MANY, "let chain = read_chain(book);", "let mut chain = read_chain(book);"),
     ("book/src/chain.rt", "pub members: usize,", "pub members: usize, pub factors: [u64; MAX_MEMBERS],"),
     ("book/src/feed.rt", "pub share: u32,", "pub share: u64,"),
     ("book/src/feed.rt", "pub from: u32,", "pub from: u32, pub factor: Option<u64>,"),
@@ -332,9 +369,9 @@ PLANTED = [
     ("book/src/checks/walk.rt", "[0u8; 256]", "[0u64; 256]"),
     ("book/src/checks/shares.rt", "some_below(", "let mut factors = [0u64; MAX_MEMBERS]; some_below("),
     ("wide/src/division.rt", PRODUCT, f"pub fn spare() -> [u64; 16] {{ zeros() }} {PRODUCT}"),
-    ("wide/src/division.rt", "first - room", "settle(factors); first - room"),
+    ("wide/src/division.rt", QUOTIENT, f"settle(factors); {QUOTIENT}"),
     ("wide/src/arithmetic.rt", "let product = self", "let factors = keep(from_fn(|i| a[i])); let product = self"),
-    ("wide/src/product.rt", "pub(crate) fn product(", "pub(crate) fn product(limbs: [u32; 6], "),
+    ("wide/src/division.rt", "fn product(", "fn product(limbs: [u32; 6], "),
 ]
 
 
