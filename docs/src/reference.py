@@ -1,8 +1,9 @@
-"""Documents 01 and 02 (R-1 to R-8) in exact whole numbers and fractions: the check from outside.
+"""Documents 01 and 02 (R-1 to R-9) in exact whole numbers and fractions: the check from outside.
 
 It follows document 01's order and words, with exposure in quarter hours as R-1 of document 02 has it,
 with R-2's shares of the years for dose, R-3's tables, R-5's rooms minute by minute, R-6's lowest rate, R-7's
-second set of coefficients and R-8's marks (R-4 changed no answer), and has nothing in common with the proved program.
+second set of coefficients, R-8's marks and R-9's many rates (R-4 changed no answer), and has nothing in common with the
+proved program.
 A job on standard input gives the text of `screen` on standard output, with --fan that of `fan`;
 with --check it also asserts, on that job, what demand 3 promises, and with both what R-6 does.
 
@@ -538,6 +539,29 @@ def marks_answer(text, book_bytes):
     counts = "".join(f"{word} {sum(one.word == word for one in found)}\n" for word in ("right", "close", "wrong"))
     first = next((f"{one.line} {one.member}" for one in found if one.word == "wrong"), "none")
     return counts + f"first {first}\n"
+
+
+# ---- Many rates in one run (R-9) -----------------------------------------------------------------
+
+
+def factors_in(row, v, book_bytes):
+    """What the factor call answers for one rate, n or minus the refusal's number, and the row as it leaves it."""
+    filled = factor_call(v, book_bytes, len(row))
+    if isinstance(filled, int):
+        return -filled, row
+    return len(filled), filled + row[len(filled) :]
+
+
+def rates_call(rates, book_bytes, width, answers, rows):
+    """How many rates are run, and both lent lists afterwards: for each rate the factor call, to which its row is lent.
+
+    A rate without a place for its answer is not run. That the book is read anew for each rate makes no difference."""
+    count = min(len(rates), len(answers))
+    answers, rows = list(answers), list(rows)
+    for k in range(count):
+        row = slice(k * width, (k + 1) * width)  # shorter where the list ends within it, or empty
+        answers[k], rows[row] = factors_in(rows[row], rates[k], book_bytes)
+    return count, answers, rows
 
 
 # ---- The program `screen` -----------------------------------------------------------------------
