@@ -14,11 +14,14 @@ body is
        bytes is not lent. Where fewer bytes follow, the set has these, and the job none
     6  a table and a book: how many bytes the table has (u32), the table, the book, answered as by `marks`. Where fewer
        bytes follow, the table has these, and the book none
+    7  the call for many rates: how many places a row has (u16), the list for the answers (u16) and that for the rows
+       (u16), how many rates there are (u16), the rates (u32 each), the book
 
 2 and 4 are answered by one line: `filled` or `refused`, how many places were filled or the refusal's number, a colon,
 and what every place of the list holds after the call; each held 7 before it. 3 is answered by `written` or `refused`,
 the text's length or the refusal's number, a line feed, the whole buffer after the call, every byte of which was #
-before it, and a line feed.
+before it, and a line feed. 7 is answered by one line: `run`, how many rates were run, a colon, what every place of the
+answers holds after the call, a colon, and every place of the rows; each of them held 7 before it.
 """
 
 import pathlib
@@ -81,6 +84,22 @@ def counted(head):
     return pack, unpack
 
 
+def lent(room):
+    """A list that is lent, before the call."""
+    return [PLACE] * room
+
+
+def pack_rates(rates, book, width, answers, rows):
+    return struct.pack(f"<4H{len(rates)}I", width, len(answers), len(rows), len(rates), *rates) + book
+
+
+def unpack_rates(body):
+    """The parts, with both lists as they are lent."""
+    width, answers, rows, count = struct.unpack_from("<4H", body)
+    rates = list(struct.unpack_from(f"<{count}I", body, 8))
+    return rates, body[8 + 4 * count :], width, lent(answers), lent(rows)
+
+
 # ---- Answers -------------------------------------------------------------------------------------
 
 
@@ -91,9 +110,9 @@ def text_itself(answer, *parts):
 def places_text(answer, numbers, book, room):
     """What is written of a call that was lent a list; the answer is a refusal's number or the factors."""
     if isinstance(answer, int):
-        words = ["refused", answer, ":"] + [PLACE] * room
+        words = ["refused", answer, ":"] + lent(room)
     else:
-        words = ["filled", len(answer), ":"] + answer + [PLACE] * (room - len(answer))
+        words = ["filled", len(answer), ":"] + answer + lent(room - len(answer))
     return " ".join(map(str, words)) + "\n"
 
 
@@ -102,6 +121,12 @@ def buffer_text(answer, numbers, book, room):
     if isinstance(answer, int):
         return f"refused {answer}\n{BYTE * room}\n"
     return f"written {len(answer)}\n{answer.ljust(room, BYTE)}\n"
+
+
+def lists_text(answer, *parts):
+    """What is written of a run: how many rates were run, and both lent lists after the call."""
+    count, answers, rows = answer
+    return " ".join(map(str, ["run", count, ":", *answers, ":", *rows])) + "\n"
 
 
 def line_end(text, at, *parts):
@@ -137,6 +162,7 @@ TABLE = Kind(3, "table_call", *counted("<IH"), buffer_text, buffer_end)
 OPENING = Kind(4, "opening_call", *counted("<HH"), places_text, line_end)
 PARTNER = Kind(5, "partner_answer", pack_two, two_parts, text_itself, partner_end)
 MARKS = Kind(6, "marks_answer", pack_two, two_parts, text_itself, marks_end)
+RATES = Kind(7, "rates_call", pack_rates, unpack_rates, lists_text, line_end)
 
 table_call = TABLE.unpack  # the Python package's tests take recorded tables apart by this name
 
@@ -171,7 +197,7 @@ def read_records(data):
 
 def read_cases(wanted, stdin=CRATE / "stdin", stdout=CRATE / "stdout"):
     """The body and the answer of each case of one kind. Both files are read to their ends: no case lacks an answer."""
-    kinds = {kind.number: kind for kind in (JOB, LOWEST, FACTORS, TABLE, OPENING, PARTNER, MARKS)}
+    kinds = {kind.number: kind for kind in (JOB, LOWEST, FACTORS, TABLE, OPENING, PARTNER, MARKS, RATES)}
     text, at, cases = pathlib.Path(stdout).read_text(encoding="ascii"), 0, []
     for number, body in read_records(pathlib.Path(stdin).read_bytes()):
         kind = kinds[number]
