@@ -14,14 +14,15 @@ import make_lowest
 import make_marks
 import make_openings
 import make_partner
+import make_rates
 import make_tables
 from plain_help import answer_help
 from recorded import record
 from recorder import make
 
 RECORDERS = [module.RECORDER for module in (make_cases, make_lowest, make_edges, make_tables, make_openings, make_partner,
-                                            make_marks)]
-MOST_BYTES, MOST_TEXT = 1_070_000, 600_000  # the files are kept in the repository
+                                            make_marks, make_rates)]
+MOST_BYTES, MOST_TEXT = 1_130_000, 600_000  # the files are kept in the repository
 
 
 def made_by(recorder):
