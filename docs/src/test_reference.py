@@ -4,7 +4,8 @@ that a job in whole hours, restated in quarters, keeps its verdict, its level an
 R-3's nine characters of a factor against a search through everything that can be printed;
 R-5's minutes by hand, without rounding, until nothing changes any more, and over a change of rate;
 R-6's lowest rate by hand, at both ends and with other rates in the job;
-and R-8's marks by hand and point by point, the form of an entry byte by byte, and two lines of document 000.
+R-8's marks by hand and point by point, the form of an entry byte by byte, and two lines of document 000;
+and R-9's runs by hand, place by place, and cut short at every place.
 
     test_reference.py
 """
@@ -20,7 +21,7 @@ import draws
 import reference as ref
 from packing import bits, pack_book, pack_feed, pack_job, pack_member
 from plain_help import answer_help
-from recorded import MARKS, read_cases
+from recorded import MARKS, RATES, read_cases
 from tally import run_tests, say_passed
 
 T1 = 2_495_329_851_600  # the document's T'
@@ -694,6 +695,70 @@ def test_own_tables():
     for chain in ("actinon", "thoron", "radon"):
         table, book = ((EXAMPLES / f"{chain}.{kind}").read_bytes() for kind in ("table", "book"))
         assert ref.marks_answer(table, book).endswith("wrong 0\nfirst none\n")
+
+
+# ---- Many rates in one run (R-9) -----------------------------------------------------------------
+
+
+def run_of(rates, book, width, answers, rows):
+    """The run, where the lists have this many places."""
+    return ref.rates_call(rates, book, width, [7] * answers, [7] * rows)
+
+
+def test_runs_by_hand():
+    """G, G / 2 and G / 3 at rates 0, 100 and 200. Of the lists that are lent nothing changes."""
+    chain, half, third = one_feed_book(), 549_755_813_888, 366_503_875_925
+    assert run_of([0, 100, 200], chain, 2, 3, 6) == (3, [2, 2, 2], [G, G, G, half, G, third])
+    assert run_of([200, 100_001, 0], chain, 3, 4, 9) == (3, [2, -3, 2, 7], [G, third, 7, 7, 7, 7, G, G, 7])
+    assert run_of([100, 200, 0], chain, 2, 2, 3) == (2, [2, -19], [G, half, 7])
+    assert run_of([100, 100_001], chain[:-1], 2, 2, 4) == (2, [-11, -3], [7, 7, 7, 7])
+    assert run_of([], chain, 2, 1, 1) == (0, [7], [7]) and run_of([0], chain, 0, 1, 1) == (1, [-19], [7])
+    answers, rows = [1, 2], [3, 4, 5, 6]
+    assert ref.rates_call([100], chain, 2, answers, rows) == (1, [2, 2], [G, half, 5, 6])
+    assert (answers, rows) == ([1, 2], [3, 4, 5, 6])
+
+
+def held(place, rates, book, width, answers, rows):
+    """What one place of the rows holds, worked out by itself: its rate's factor, or 7."""
+    k, i = divmod(place, width) if width > 0 else (len(rates), 0)
+    if k >= min(len(rates), len(answers)):
+        return 7
+    factors = ref.factor_call(rates[k], book, 16)
+    fits = isinstance(factors, list) and len(factors) <= min(width, len(rows) - k * width)
+    return factors[i] if fits and i < len(factors) else 7
+
+
+def test_runs_place_by_place():
+    """The recorded runs: each answer from its own rate and row alone, and each place of the rows by itself."""
+    for body, said in read_cases(RATES):
+        rates, book, width, answers, rows = call = RATES.unpack(body)
+        count, *places = said.split(":")
+        after, filled = ([int(word) for word in words.split()] for words in places)
+        assert count == f"run {min(len(rates), len(answers))} " and len(after) == len(answers)
+        for k, (v, answer) in enumerate(zip(rates, after)):
+            one = ref.factor_call(v, book, max(0, min(width, len(rows) - k * width)))
+            assert answer == (-one if isinstance(one, int) else len(one)), (call, k)
+        assert set(after[len(rates) :]) <= {7}
+        assert filled == [held(place, *call) for place in range(len(rows))], call
+
+
+def test_runs_cut_short():
+    """A run of whole lists, and the same cut short: what is left is the same, but for rows that have lost one of their n
+    places."""
+    rng = draws.Random(0x437574)
+    for _ in range(40):
+        book = draws.book_of(draws.random_case(rng, rng.between(1, 4)))
+        n, rates = book[0], [rng.one_of((draws.random_rate(rng), 100_001)) for _ in range(4)]
+        width = n + rng.between(0, 2)
+        _, answers, rows = run_of(rates, book, width, 4, 4 * width)
+        for places in range(5):
+            assert run_of(rates, book, width, places, 4 * width) == (
+                places, answers[:places], rows[: places * width] + [7] * ((4 - places) * width))
+        for room in range(4 * width + 1):
+            whole = [k * width + n <= room for k in range(4)]
+            assert run_of(rates, book, width, 4, room) == (
+                4, [answer if fits or answer == -3 else -19 for answer, fits in zip(answers, whole)],
+                [x if whole[place // width] else 7 for place, x in enumerate(rows[:room])])
 
 
 def main():
