@@ -25,8 +25,8 @@
 extern "C" {
 #endif
 
-/* The version of this header: major * 1,000,000 + minor * 1,000 + patch, so that 9,000 is 0.9.0. */
-#define JELMORAND_VERSION 9000
+/* The version of this header: major * 1,000,000 + minor * 1,000 + patch, so that 10,000 is 0.10.0. */
+#define JELMORAND_VERSION 10000
 
 /* The version of the library, in the same form. What this header says holds where both have the same major and minor number and the
  * library's patch number is not lower. Ask once, before any other call, where the library is a shared object:

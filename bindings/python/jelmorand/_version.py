@@ -1,6 +1,6 @@
 """The version of this package, and which versions of the library fit it."""
 
-__version__ = "0.9.0"
+__version__ = "0.10.0"
 
 
 def number_of(version: str) -> int:

@@ -1,10 +1,10 @@
 //! The version of this package, and that of the archive it is linked with.
 use crate::library;
 
-/// The version of this package: major · 1,000,000 + minor · 1,000 + patch, so that 9,000 is 0.9.0.
+/// The version of this package: major · 1,000,000 + minor · 1,000 + patch, so that 10,000 is 0.10.0.
 pub const VERSION: u32 = number_in(env!("CARGO_PKG_VERSION"));
 
-/// The number of a version such as `0.9.0`, whose parts are below 1,000.
+/// The number of a version such as `0.10.0`, whose parts are below 1,000.
 const fn number_in(version: &str) -> u32 {
     let (mut number, mut part, mut at) = (0, 0, 0);
     while at < version.len() {
@@ -41,7 +41,7 @@ mod tests {
 
     #[test]
     fn number_has_three_digits_a_part() {
-        for (version, number) in [("0.9.0", 9_000), ("1.0.0", 1_000_000), ("2.34.567", 2_034_567)] {
+        for (version, number) in [("0.10.0", 10_000), ("1.0.0", 1_000_000), ("2.34.567", 2_034_567)] {
             assert_eq!(number_in(version), number);
         }
     }
