@@ -3,13 +3,14 @@
  * Link with libjelmorand.a or libjelmorand.so (x86-64 Linux). All calls but jelmorand_refusal_sentence are proved to answer what is
  * said here for every input, on the condition that a C caller must keep and that nothing checks: each pointer is aligned for its
  * type, and has at least as many elements behind it as the length after it says, so it may be null where that length is 0;
- * `figures`, `set` and `marks`, which have no length, are never null; and what `out`, `figures`, `factors`, `set` and `marks` point
- * to overlaps nothing else that is passed. A length is at most PTRDIFF_MAX bytes. None of them allocates, blocks or keeps a pointer,
- * and all may be called from several threads at once. Of the stack a call for factors or for marks takes under 2 KB, the others under
- * 3 KB, as measured.
+ * `figures`, `set` and `marks`, which have no length, are never null; and what `out`, `answers`, `rows`, `figures`, `factors`, `set`
+ * and `marks` point to overlaps nothing else that is passed. A length is at most PTRDIFF_MAX bytes; `width` may be any number. No
+ * call allocates, blocks or keeps a pointer, and all may be called from several threads at once. Of the stack a call for factors or
+ * for marks takes under 2 KB, the others under 3 KB, as measured.
  *
  * Every call answers an int64_t: the answer itself where it is not negative, and minus the number of the refusal otherwise. So a
- * refusal is met by  if (answer < 0),  and this one by  if (answer == -JELMORAND_BOOK_TOO_SHORT).
+ * refusal is met by  if (answer < 0),  and this one by  if (answer == -JELMORAND_BOOK_TOO_SHORT).  A run at many rates is never
+ * refused as a whole: jelmorand_factors_at_rates writes such an answer for each rate.
  *
  * The bytes of a job, of a chain book and of a second set of coefficients are described, with an example, in docs/FORMAT.md. A job's
  * exposure is in quarter hours per day, 0 to 96. It used to be in whole hours, 0 to 24: a job written so would be taken for a quarter
@@ -74,10 +75,10 @@ enum jelmorand_unit { JELMORAND_PCI_PER_L = 0, JELMORAND_PCI_PER_M3 = 1, JELMORA
 #define JELMORAND_WORKER {0, 0, 0, 0, 250, 25, 32, 60}
 
 /* The grounds for refusal: number, name and sentence, in the order in which they are checked, save that 22 comes straight after 3,
- * and 23 and 24 straight after 18. A factor call makes checks 3 and 9 to 19, a report 1 to 18 and 21, its figures 1 to 19, a table 3,
- * 9 to 18, 20 and 21, the factors after periods 3, 22 and 9 to 19, the lowest rate of a job 1 to 18, the marks of a table 9 to 18 and
- * 24. Check 23 is made where a second set of coefficients is lent, and only there. A later version of the library may have more: a
- * number that is not in this list is a refusal all the same. */
+ * and 23 and 24 straight after 18. A factor call makes checks 3 and 9 to 19, and so does each row of many rates, a report 1 to 18 and
+ * 21, its figures 1 to 19, a table 3, 9 to 18, 20 and 21, the factors after periods 3, 22 and 9 to 19, the lowest rate of a job 1 to
+ * 18, the marks of a table 9 to 18 and 24. Check 23 is made where a second set of coefficients is lent, and only there. A later
+ * version of the library may have more: a number that is not in this list is a refusal all the same. */
 #define JELMORAND_REFUSALS(GROUND) \
     GROUND(1, JELMORAND_JOB_TOO_SHORT, \
            "the job has fewer than 48 bytes") \
@@ -147,6 +148,28 @@ const char *jelmorand_refusal_sentence(int64_t number);
  * Accepted, it writes the first n places of `out`, no others, and answers n, the number of members, 1 to 16.
  * Refused, it answers minus the refusal's number, and leaves `out` as it was. */
 int64_t jelmorand_factors(uint32_t rate, const uint8_t *book, size_t book_len, uint64_t *out, size_t out_len);
+
+/* The factor of every member of a chain book at each of many ventilation rates, in one run for which the book is read once.
+ *
+ * rates: hundredths of an air change per hour, each 0 to 100,000; any number of them, in any order.
+ * book: the bytes of the chain book.
+ * width: how many places of `rows` a row has. JELMORAND_MAX_MEMBERS is enough for every book; less and more are taken as they are.
+ * answers: where the answer for each rate goes, answer k for rate k, counted from 0.
+ * rows: where the factors go, in grains as in jelmorand_factors. Row k is the places k * width up to (k + 1) * width, fewer where the
+ * list ends before that, and none where it ends before the row begins.
+ *
+ * It answers how many rates were run: rates_len, or answers_len where that is less, so 0 where either is. It is never refused as a
+ * whole, so look at each answer before its row.
+ *
+ * Answer k and row k become what jelmorand_factors answers and leaves for rate k, the book and just that row: accepted, the answer is
+ * n, the number of members, 1 to 16, and the first n places of the row hold the factors, while its other places are untouched;
+ * refused, the answer is minus the refusal's number, and the row is untouched. So a rate that is too high is refused in its own row
+ * alone, a book that is not accepted in every row, and a row of fewer than n places with JELMORAND_LIST_TOO_SHORT.
+ *
+ * A rate without a place for its answer is not run, and its row is untouched; so are the places of `answers` past the last rate, and
+ * those of `rows` past the last row that was run. */
+int64_t jelmorand_factors_at_rates(const uint32_t *rates, size_t rates_len, const uint8_t *book, size_t book_len, size_t width,
+                                   int64_t *answers, size_t answers_len, uint64_t *rows, size_t rows_len);
 
 /* The report of a whole job: its 48 bytes followed by the chain book.
  *
