@@ -96,9 +96,35 @@ static void check_marks(void)
     }
 }
 
+/* Only where there are rates and places for answers is anything run; the answer is that of the book, or else of the row. */
+static void check_rates(void)
+{
+    static const uint32_t zeros[] = {0, 0};
+    uint8_t bytes[128];
+    int64_t places[2];
+    uint64_t list[4];
+    for (int which = 0; which < 32; which++) {
+        const size_t count = which & 1 ? 2 : 0;
+        const size_t length = which & 2 ? one_feed(bytes, 0) : 0;
+        const size_t width = which & 4 ? 2 : 0;
+        const size_t most = which & 8 ? 2 : 0;
+        const size_t room = which & 16 ? 4 : 0;
+        const uint32_t *rates = count > 0 ? zeros : NULL;
+        const uint8_t *book = length > 0 ? bytes : NULL;
+        int64_t *answered = most > 0 ? places : NULL;
+        uint64_t *rows = room > 0 ? list : NULL;
+        const int64_t full = width > 0 && room > 0 ? 2 : -JELMORAND_LIST_TOO_SHORT;
+        const int64_t read = length > 0 ? full : -JELMORAND_BOOK_TOO_SHORT;
+        const int64_t run = jelmorand_factors_at_rates(rates, count, book, length, width, answered, most, rows, room);
+        expect(run == (count > 0 && most > 0 ? 2 : 0), "how many of null lists are run");
+        expect(run == 0 || (places[0] == read && places[1] == read), "the answers at many rates of null lists");
+    }
+}
+
 int main(void)
 {
     check_lists();
+    check_rates();
     check_jobs();
     check_second_sets();
     check_tables();

@@ -1,5 +1,5 @@
 /* Makes every call on rows of document 01, on periods and on refusals, and says which answer is wrong, if one is. Those with a second
- * set of coefficients are in second.c, and the marks of a table in marks.c. */
+ * set of coefficients are in second.c, the marks of a table in marks.c, and runs at many rates in rates.c. */
 #include "rows.h"
 
 static void check_factors(void)

@@ -18,10 +18,11 @@
 /* In bytes. */
 #define FACTORS_LIMIT 1536
 #define AFTER_LIMIT 2048
+#define AT_RATES_LIMIT 2048
 #define MARKS_LIMIT 2048
 #define JOB_LIMIT 3072
 
-enum call { NONE, FACTORS, AFTER, REPORT, FIGURES, TABLE, MARKS, LOWEST, FIGURES_WITH, LOWEST_WITH, CALLS };
+enum call { NONE, FACTORS, AFTER, AT_RATES, REPORT, FIGURES, TABLE, MARKS, LOWEST, FIGURES_WITH, LOWEST_WITH, CALLS };
 
 static _Alignas(64) uint8_t space[SPACE];
 static ucontext_t here, there;
@@ -38,6 +39,8 @@ static uint8_t table[JELMORAND_TABLE_ROOM];
 static size_t table_length;
 
 static uint64_t factors[JELMORAND_MAX_MEMBERS];
+static int64_t answers_at_rates[JELMORAND_MAX_RATES];
+static uint64_t rows[JELMORAND_MAX_RATES * JELMORAND_MAX_MEMBERS];
 static struct jelmorand_figures figures;
 static uint8_t text[JELMORAND_TABLE_ROOM];
 static uint32_t set;
@@ -80,6 +83,10 @@ static void make_call(void)
         break;
     case AFTER:
         answer = jelmorand_factors_after(periods, 4, book, book_length(), factors, JELMORAND_MAX_MEMBERS);
+        break;
+    case AT_RATES:
+        answer = jelmorand_factors_at_rates(rates, JELMORAND_MAX_RATES, book, book_length(), JELMORAND_MAX_MEMBERS, answers_at_rates,
+                                            JELMORAND_MAX_RATES, rows, JELMORAND_MAX_RATES * JELMORAND_MAX_MEMBERS);
         break;
     case REPORT:
         answer = jelmorand_report(job, job_length, text, JELMORAND_REPORT_ROOM);
@@ -192,9 +199,10 @@ int main(int count, char **words)
     printf("stack: the most over %d recorded jobs: a factor call %zu bytes, factors after periods %zu, "
            "a whole job with its report %zu, its figures %zu, a table of 200 rates %zu, its marks %zu, a lowest rate %zu\n",
            jobs, most[FACTORS], most[AFTER], most[REPORT], most[FIGURES], most[TABLE], most[MARKS], most[LOWEST]);
+    printf("stack: a run at %d rates %zu bytes\n", JELMORAND_MAX_RATES, most[AT_RATES]);
     printf("stack with a second set of coefficients: a job's figures %zu bytes, a lowest rate %zu\n", most[FIGURES_WITH],
            most[LOWEST_WITH]);
-    return jobs == 0 || most[FACTORS] >= FACTORS_LIMIT || most[AFTER] >= AFTER_LIMIT || most[MARKS] >= MARKS_LIMIT
-        || most[REPORT] >= JOB_LIMIT || most[FIGURES] >= JOB_LIMIT || most[LOWEST] >= JOB_LIMIT
+    return jobs == 0 || most[FACTORS] >= FACTORS_LIMIT || most[AFTER] >= AFTER_LIMIT || most[AT_RATES] >= AT_RATES_LIMIT
+        || most[MARKS] >= MARKS_LIMIT || most[REPORT] >= JOB_LIMIT || most[FIGURES] >= JOB_LIMIT || most[LOWEST] >= JOB_LIMIT
         || most[FIGURES_WITH] >= JOB_LIMIT || most[LOWEST_WITH] >= JOB_LIMIT;
 }
