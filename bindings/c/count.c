@@ -1,10 +1,11 @@
 /* One call on the largest book, 16 members and 64 feeds, so that a tool that counts instructions has something to count.
  *
- *     count factors | report | figures | second
+ *     count factors | report | figures | second | rates HOW_MANY
  *
- * Answers with status 0 where the call was accepted. */
+ * Answers with status 0 where the call was accepted; a run at so many rates, where each of them was. */
 #include "jelmorand.h"
 
+#include <stdlib.h>
 #include <string.h>
 
 #define MEMBERS 16
@@ -13,6 +14,7 @@
 #define MEMBER 32
 #define FEED 8
 #define BOOK_LENGTH (HEADER + MEMBERS * MEMBER + FEEDS * FEED)
+#define MOST_RATES 1000
 
 static uint8_t job[JELMORAND_JOB_LENGTH + BOOK_LENGTH];
 static uint8_t second[MEMBERS * JELMORAND_COEFFICIENTS_LENGTH];
@@ -75,6 +77,24 @@ static void make_second(void)
         put(second + i, 2000 + i, 4);
 }
 
+/* A run at the rates 0, 100 and so on. The rates and the lists are there in any case, so that runs differ in what is run alone. */
+static int run(size_t count)
+{
+    static uint32_t rates[MOST_RATES];
+    static int64_t answers[MOST_RATES];
+    static uint64_t rows[MOST_RATES * MEMBERS];
+    if (count > MOST_RATES)
+        return 2;
+    for (uint32_t k = 0; k < MOST_RATES; k++)
+        rates[k] = 100 * k;
+    const int64_t ran = jelmorand_factors_at_rates(rates, count, job + JELMORAND_JOB_LENGTH, BOOK_LENGTH, MEMBERS, answers, MOST_RATES,
+                                                   rows, MOST_RATES * MEMBERS);
+    for (size_t k = 0; k < count; k++)
+        if (answers[k] != MEMBERS)
+            return 1;
+    return ran != (int64_t)count;
+}
+
 int main(int count, char **words)
 {
     static uint64_t factors[JELMORAND_MAX_MEMBERS];
@@ -91,5 +111,7 @@ int main(int count, char **words)
         return jelmorand_screen(job, sizeof job, &figures, factors, MEMBERS) != MEMBERS;
     if (count == 2 && strcmp(words[1], "second") == 0)
         return jelmorand_screen_with(job, sizeof job, second, sizeof second, &set, &figures, factors, MEMBERS) != MEMBERS;
+    if (count == 3 && strcmp(words[1], "rates") == 0)
+        return run(strtoul(words[2], NULL, 10));
     return 2;
 }
