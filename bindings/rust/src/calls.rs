@@ -3,8 +3,9 @@ use crate::coefficients::lent;
 use crate::periods::Flat;
 use crate::{library, CoefficientSet, Refusal};
 
-/// The answer itself where it is not negative, and minus the refusal's number otherwise: every call answers so.
-pub(crate) fn answered(answer: i64) -> Result<usize, Refusal> {
+/// What an answer of the library says: itself where it is not negative, and minus the refusal's number otherwise. Every call answers so,
+/// and so does `factors_at_rates_into` for each rate.
+pub fn answered(answer: i64) -> Result<usize, Refusal> {
     let number = |answer: i64| u32::try_from(answer.unsigned_abs()).unwrap_or(u32::MAX);
     usize::try_from(answer).map_err(|_| Refusal::from_number(number(answer)))
 }

@@ -58,6 +58,11 @@
 //! let refused = jelmorand::factors(100_001, &book, &mut factors).unwrap_err();
 //! assert_eq!(refused.to_string(), "the rate exceeds 100,000");
 //!
+//! // The same at many rates, of which one is too high.
+//! let rows = jelmorand::factors_at_rates(&[18, 100_001, 100], &book);
+//! assert_eq!(*rows[0]?, [1_099_511_627_776]);
+//! assert_eq!(rows[1], Err(jelmorand::Refusal::RateTooHigh));
+//!
 //! // Shut for eight hours, then aired for one.
 //! assert_eq!(jelmorand::factors_after(&[(0, 480), (200, 60)], &book, &mut factors)?, 1);
 //!
@@ -82,18 +87,22 @@ mod job;
 mod library;
 mod marks;
 mod periods;
+mod rates;
 mod refusal;
 mod report;
 mod version;
 
 #[cfg(feature = "std")]
 pub use book::{Book, Member};
-pub use calls::{factors, factors_after, lowest_rate, lowest_rate_with, report_into, table_into, LowestRate};
+pub use calls::{answered, factors, factors_after, lowest_rate, lowest_rate_with, report_into, table_into, LowestRate};
 #[cfg(feature = "std")]
 pub use calls::{report, table};
 pub use coefficients::{CoefficientSet, Coefficients, COEFFICIENTS_LENGTH};
 pub use job::{Exposure, Group, Job, Kind, Medium, Unit, JOB_LENGTH};
 pub use marks::{marks, Marks, Place};
+#[cfg(feature = "std")]
+pub use rates::factors_at_rates;
+pub use rates::factors_at_rates_into;
 pub use refusal::Refusal;
 pub use report::{screen, screen_with, Factors, Report, Verdict, WorkingLevels};
 pub use version::{library_version, VERSION};

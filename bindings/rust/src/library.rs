@@ -21,6 +21,17 @@ pub struct Figures {
 extern "C" {
     fn jelmorand_version() -> i64;
     fn jelmorand_factors(rate: u32, book: *const u8, book_len: usize, out: *mut u64, out_len: usize) -> i64;
+    fn jelmorand_factors_at_rates(
+        rates: *const u32,
+        rates_len: usize,
+        book: *const u8,
+        book_len: usize,
+        width: usize,
+        answers: *mut i64,
+        answers_len: usize,
+        rows: *mut u64,
+        rows_len: usize,
+    ) -> i64;
     fn jelmorand_report(job: *const u8, job_len: usize, out: *mut u8, out_len: usize) -> i64;
     fn jelmorand_table(
         rates: *const u32,
@@ -59,6 +70,23 @@ pub fn version() -> i64 {
 pub fn factors(rate: u32, book: &[u8], out: &mut [u64]) -> i64 {
     version::check();
     unsafe { jelmorand_factors(rate, book.as_ptr(), book.len(), out.as_mut_ptr(), out.len()) }
+}
+
+pub fn factors_at_rates(rates: &[u32], book: &[u8], width: usize, answers: &mut [i64], rows: &mut [u64]) -> i64 {
+    version::check();
+    unsafe {
+        jelmorand_factors_at_rates(
+            rates.as_ptr(),
+            rates.len(),
+            book.as_ptr(),
+            book.len(),
+            width,
+            answers.as_mut_ptr(),
+            answers.len(),
+            rows.as_mut_ptr(),
+            rows.len(),
+        )
+    }
 }
 
 pub fn report(job: &[u8], out: &mut [u8]) -> i64 {

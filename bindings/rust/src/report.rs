@@ -20,8 +20,8 @@ pub enum Verdict {
 /// Every member's factor in grains of 2^-40 of the parent's activity, the parent first: a list of 1 to 16 numbers.
 #[derive(Clone, Copy, PartialEq, Eq)]
 pub struct Factors {
-    places: [u64; MAX_MEMBERS],
-    count: usize,
+    pub(crate) places: [u64; MAX_MEMBERS],
+    pub(crate) count: usize,
 }
 
 impl Deref for Factors {
