@@ -117,14 +117,20 @@ pub fn read(book: &[u8]) -> Result<Chain, u32> {
     Ok(chain)
 }
 
-/// Every member's factor at rate v, in grains.
-pub fn balance(chain: &Chain, v: u32) -> Vec<u64> {
-    let mut factors = vec![GRAINS as u64];
-    for (member, list) in chain.members.iter().zip(&chain.fed_by).skip(1) {
+/// Every member's factor at rate v, in grains, into the first places of a list.
+pub fn fill(chain: &Chain, v: u32, factors: &mut [u64]) {
+    factors[0] = GRAINS as u64;
+    for (i, (member, list)) in chain.members.iter().zip(&chain.fed_by).enumerate().skip(1) {
         let inflow: u128 = list.iter().map(|j| &chain.feeds[*j]).map(|f| u128::from(f.share) * u128::from(factors[f.from])).sum();
         let decay = LN2_HOURS + u128::from(v) * u128::from(member.half_life);
-        factors.push((inflow / 100_000 * LN2_HOURS / decay) as u64);
+        factors[i] = (inflow / 100_000 * LN2_HOURS / decay) as u64;
     }
+}
+
+/// The same in a list of their own.
+pub fn balance(chain: &Chain, v: u32) -> Vec<u64> {
+    let mut factors = vec![0; chain.members.len()];
+    fill(chain, v, &mut factors);
     factors
 }
 
