@@ -17,6 +17,7 @@ from ._coefficients import Coefficients, CoefficientSet
 from ._jobs import JOB_LENGTH, RESIDENTIAL, WORKER, Exposure, Group, Job, Kind, Medium, Unit
 from ._limits import COEFFICIENTS_LENGTH, MAX_MEMBERS, MAX_MINUTES, MAX_PERIODS, MAX_RATES, REPORT_ROOM, TABLE_ROOM
 from ._marks import Marks, Place, marks
+from ._rates import factors_at_rates
 from ._refusals import GROUNDS, Refused
 from ._screening import Report, WorkingLevels, screen, screen_with
 from ._version import __version__
@@ -51,6 +52,7 @@ __all__ = [
     "__version__",
     "factors",
     "factors_after",
+    "factors_at_rates",
     "lowest_rate",
     "lowest_rate_with",
     "marks",

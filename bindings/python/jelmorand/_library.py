@@ -8,6 +8,7 @@ from ._version import __version__, fits, text_of
 
 _NUMBER, _SIZE, _BYTES, _ROOM = ctypes.c_uint32, ctypes.c_size_t, ctypes.c_char_p, ctypes.POINTER(ctypes.c_char)
 _NUMBERS, _PLACES = ctypes.POINTER(ctypes.c_uint32), ctypes.POINTER(ctypes.c_uint64)
+_ANSWERS = ctypes.POINTER(ctypes.c_int64)
 
 
 class Figures(ctypes.Structure):
@@ -20,6 +21,7 @@ _ARGUMENTS = {
     "jelmorand_version": [],
     "jelmorand_factors": [_NUMBER, _BYTES, _SIZE, _PLACES, _SIZE],
     "jelmorand_factors_after": [_NUMBERS, _SIZE, _BYTES, _SIZE, _PLACES, _SIZE],
+    "jelmorand_factors_at_rates": [_NUMBERS, _SIZE, _BYTES, _SIZE, _SIZE, _ANSWERS, _SIZE, _PLACES, _SIZE],
     "jelmorand_table": [_NUMBERS, _SIZE, _BYTES, _SIZE, _ROOM, _SIZE],
     "jelmorand_marks": [_BYTES, _SIZE, _BYTES, _SIZE, _PLACES],
     "jelmorand_report": [_BYTES, _SIZE, _ROOM, _SIZE],

@@ -23,7 +23,7 @@ words of the C header."""
 
 
 class Refused(ValueError):
-    """A job, a call for factors or a table that is refused, for the first of the grounds that is met.
+    """A job, a call for factors, one of many rates or a table that is refused, for the first of the grounds that is met.
 
     `number` is the ground's number, the one that a refused report prints, and `sentence` says what is wrong. A number that is not
     among the GROUNDS is a refusal all the same.
