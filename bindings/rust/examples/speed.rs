@@ -1,6 +1,6 @@
-//! Times the factor call and a whole job for many rates, a table of 200, and the factors after the most periods of the most minutes,
-//! beside the plain rewrite, at a book of 16 members and 64 feeds. The rewrite of a job allocates its text, and that of a table
-//! searches for each entry, digit by digit, so their times are no measure of a plain program's, and no ratio is printed there.
+//! Times the factor call and a whole job for many rates, one run at as many, a table of 200, and the factors after the most periods of
+//! the most minutes, beside the plain rewrite, at a book of 16 members and 64 feeds. The rewrite of a job allocates its text, and that of
+//! a table searches for each entry, digit by digit, so their times are no measure of a plain program's, and no ratio is printed there.
 //! A lowest rate is timed beside the whole job, and a job's figures with a second set of coefficients beside those without.
 #[path = "../tests/common/mod.rs"]
 mod common;
@@ -11,13 +11,14 @@ use common::periods::in_turn;
 use common::random::Random;
 use common::second_sets::any_numbers;
 use common::timing::{best, best_of_each};
-use common::{plain, plain_job, plain_minutes, plain_table};
-use jelmorand::{Exposure, Job, Kind, Medium, Unit};
+use common::{plain, plain_job, plain_minutes, plain_rates, plain_table};
+use jelmorand::{Exposure, Job, Kind, Medium, Unit, MAX_MEMBERS};
 use std::hint::black_box;
 use std::time::Duration;
 
 const RATES: u32 = 10_000;
 const ROUNDS: usize = 5;
+const RUN_ROUNDS: usize = 20;
 const TABLE_ROUNDS: usize = 50;
 const PERIODS_ROUNDS: usize = 30;
 
@@ -36,6 +37,26 @@ fn time_factors(book: &[u8]) {
     });
     let ratio = proved.as_secs_f64() / rewrite.as_secs_f64();
     println!("speed: {RATES} rates, 16 members, 64 feeds: proved {proved:?}, plain u128 {rewrite:?}, ratio {ratio:.2}");
+}
+
+/// Both read the book once for the whole run.
+fn time_run(book: &[u8]) {
+    let rates: Vec<u32> = (0..RATES).map(|k| k * 10).collect();
+    let mut answers = vec![0; rates.len()];
+    let (mut proved_rows, mut plain_rows) = (vec![0; rates.len() * MAX_MEMBERS], vec![0; rates.len() * MAX_MEMBERS]);
+    let proved_run = || {
+        let (answers, rows) = black_box((&mut answers, &mut proved_rows));
+        jelmorand::factors_at_rates_into(black_box(&rates), black_box(book), MAX_MEMBERS, answers, rows);
+    };
+    let plain_run = || {
+        let chain = plain::read(black_box(book)).expect("a good book");
+        plain_rates::fill_rows(black_box(&rates), &chain, MAX_MEMBERS, black_box(&mut plain_rows));
+    };
+    let (proved, rewrite) = best_of_each(RUN_ROUNDS, proved_run, plain_run);
+    assert!(answers.iter().all(|answer| *answer == MAX_MEMBERS as i64), "a rate was refused");
+    assert!(proved_rows == plain_rows, "the rows differ");
+    let (row, ratio) = (proved / RATES, proved.as_secs_f64() / rewrite.as_secs_f64());
+    println!("speed: {RATES} rates in one run: proved {proved:?}, a row {row:?}, plain u128 {rewrite:?}, ratio {ratio:.2}");
 }
 
 /// A dose job in indoor air at 4 pCi/L without uncertainty, for workers.
@@ -114,6 +135,7 @@ fn main() {
     let mut random = Random::fresh("speed");
     let book = book_of(&mut random, 16, 64);
     time_factors(&book);
+    time_run(&book);
     time_report(&book);
     time_second_set(&mut random, &book);
     time_table(&book);
