@@ -1,5 +1,5 @@
-"""What bindings/install writes, what pip makes of bindings/python, and the lines for .cargo/config.toml of bindings/README.md. Nothing is
-fetched, and nothing is left behind.
+"""What bindings/install writes, what pip makes of bindings/python, and the lines for .cargo/config.toml and the programs in C and Rust of
+bindings/README.md. Nothing is fetched, and nothing is left behind.
 
     JELMORAND_LIB=$(pwd)/crates/jelmorand/out python3 bindings/test_install.py
 """
@@ -19,6 +19,8 @@ HEADER = (BINDINGS / "c" / "jelmorand.h").read_text("ascii")
 NUMBER = int(re.search(r"#define JELMORAND_VERSION (\d+)\n", HEADER)[1])
 SERIES = f"{NUMBER // 1_000_000}.{NUMBER // 1_000 % 1_000}"
 VERSION = f"{SERIES}.{NUMBER % 1_000}"
+# What the page says that its programs for a book at many rates print, that in C and that in Rust as well as the one in Python.
+AT_RATES = re.search(r"All three print .*?\n\n((?:    .*\n)+)", PAGE)[1].replace("    ", "")
 
 
 def run(*words, **changed):
@@ -101,6 +103,12 @@ class Install(Folder):
         run("cc", f"-I{there}/include", "-o", self.folder / "smoke", BINDINGS / "c" / "smoke.c", there / "lib" / "libjelmorand.a")
         self.assertIn("smoke: ", run(self.folder / "smoke"))
 
+    def test_page_s_program(self):
+        there, source = self.installed(), self.folder / "page.c"
+        source.write_text(re.search(r"<<'C'\n(.*?\n)C\n", PAGE, re.DOTALL)[1], "ascii")
+        run("cc", "-std=c11", f"-I{there}/include", "-o", self.folder / "page", source, there / "lib" / "libjelmorand.a")
+        self.assertEqual(run(self.folder / "page", cwd=BINDINGS.parent), AT_RATES)
+
     def test_no_prefix(self):
         for words in ((), ("one", "two")):
             made = tried(BINDINGS / "install", *words, cwd=self.folder)
@@ -153,12 +161,7 @@ class Pip(Folder):
 
 class Cargo(Folder):
     PROGRAM = 'fn main() { println!("{} {}", jelmorand::VERSION, jelmorand::Refusal::JobTooShort); }\n'
-
-    def test_config_lines(self):
-        """A project with the page's lines builds without JELMORAND_LIB in the environment."""
-        lines = re.search(r"```toml\n(.*?)```", PAGE, re.DOTALL)[1]
-        run(BINDINGS / "install", self.folder / "target" / "installed")
-        manifest = f"""[package]
+    MANIFEST = f"""[package]
 name = "user"
 version = "0.0.0"
 edition = "2021"
@@ -166,12 +169,26 @@ edition = "2021"
 [dependencies]
 jelmorand = {{ path = "{BINDINGS}/rust" }}
 """
-        for name, text in ((".cargo/config.toml", lines), ("Cargo.toml", manifest), ("src/main.rs", self.PROGRAM)):
+
+    def write(self, *files):
+        for name, text in (("Cargo.toml", self.MANIFEST), *files):
             (self.folder / name).parent.mkdir(exist_ok=True)
             (self.folder / name).write_text(text, "utf-8")
+
+    def test_config_lines(self):
+        """A project with the page's lines builds without JELMORAND_LIB in the environment."""
+        lines = re.search(r"```toml\n(.*?)```", PAGE, re.DOTALL)[1]
+        run(BINDINGS / "install", self.folder / "target" / "installed")
+        self.write((".cargo/config.toml", lines), ("src/main.rs", self.PROGRAM))
         words = ("env", "-u", "JELMORAND_LIB", "cargo", "run", "--offline", "--quiet")
         said = run(*words, cwd=self.folder, CARGO_TARGET_DIR=self.folder / "built")
         self.assertEqual(said, f"{NUMBER} the job has fewer than 48 bytes\n")
+
+    def test_page_s_program(self):
+        self.write(("src/main.rs", re.search(r"```rust\n(.*?)```", PAGE, re.DOTALL)[1]))
+        words = ("cargo", "run", "--offline", "--quiet", "--manifest-path", self.folder / "Cargo.toml")
+        lib = self.installed() / "lib"
+        self.assertEqual(run(*words, cwd=BINDINGS.parent, JELMORAND_LIB=lib, CARGO_TARGET_DIR=self.folder / "built"), AT_RATES)
 
 
 if __name__ == "__main__":

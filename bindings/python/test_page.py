@@ -1,4 +1,4 @@
-"""The examples of bindings/README.md print what the page says.
+"""The examples in Python of bindings/README.md print what the page says. Those in C and Rust are in bindings/test_install.py.
 
     JELMORAND_SO=target/libjelmorand.so python3 bindings/python/test_page.py
 """
