@@ -1,6 +1,7 @@
 """The other commands: what a program or the text tool says comes out as it is, and the exit status says whether it did."""
 
 import os
+import subprocess
 
 import reference
 from house import EXAMPLES, ROOT, example, house_test
@@ -129,3 +130,13 @@ def test_closed_output(home):
     status, _, said = home.run("screen", "examples/guide.txt", stdout=writer)
     os.close(writer)
     assert status == 2 and said.startswith("standard output: ")
+
+
+@house_test
+def test_closed_input(home):
+    """What is lent to a program beside its input is the same where the command has no input at all."""
+    for words in (("check", "examples/a-1.table", "examples/actinon.txt"),
+                  ("screen", "examples/workroom.txt", "--coefficients", "examples/partner.txt")):
+        line = f"exec ./jelmorand {' '.join(words)} <&-"
+        done = subprocess.run(["sh", "-c", line], cwd=home.folder, capture_output=True, timeout=300, check=False)
+        assert (done.returncode, done.stdout.decode(), done.stderr.decode()) == home.run(*words), words

@@ -1,6 +1,7 @@
 """The proved programs' answers. What is not wholly an answer is a failure, and never taken for one."""
 
 import contextlib
+import fcntl
 import os
 import re
 import subprocess
@@ -11,6 +12,7 @@ from .tool import Failure
 
 LONGEST = 60  # seconds; an answer takes a few thousandths of one
 STANDARD_INPUT = "/dev/stdin"  # as a file's name
+FIRST_OTHER = 3  # the first number of an open file that is neither the input nor an output
 REPORT = re.compile(
     r"(?:factor \d+ \d+\n)+"
     r"concentration (?P<concentration>\d+)\n"
@@ -60,8 +62,12 @@ def asked(name, data, *words, lent=()):
 
 @contextlib.contextmanager
 def in_memory(data):
-    """The number of an open file with these bytes, for a program that takes a file: one in memory, so that none is left behind."""
-    with open(os.memfd_create("lent"), "wb") as file:
+    """The number of an open file with these bytes, for a program that takes a file: one in memory, so that none is left behind.
+    It is never that of an input or output that the command has not, at which a program would find its own."""
+    first_free = os.memfd_create("lent")
+    other = fcntl.fcntl(first_free, fcntl.F_DUPFD_CLOEXEC, FIRST_OTHER)
+    os.close(first_free)
+    with open(other, "wb") as file:
         file.write(data)
         file.flush()
         yield file.fileno()
