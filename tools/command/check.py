@@ -1,10 +1,10 @@
 """`check`: a table from elsewhere, compared with a book; every wrong entry by name (docs/CHECK.md)."""
 
 from textform.files import is_bytes, text_of
-from textform.words import Mistake, in_line, placed
+from textform.words import Mistake, placed
 
 from .building import make_ready
-from .given import book_given, bytes_in, member_names
+from .given import book_given, bytes_in, member_names, told_of
 from .marks import marked_alone, marks_of, wrong_entries
 from .numerals import count, decimal, listed
 from .passing import TABLE
@@ -49,13 +49,11 @@ def options_of(words):
 
 def book_in(name):
     """The book in a file. A table in its place is told, since the two are easily exchanged."""
-    try:
+    with told_of(name):
         data = bytes_in(name)
         if not is_bytes(data) and looks_printed(text_of(data)):
             raise Mistake("this looks like a table, and not like a room's text: the table stands first", 1)
         return book_given(name)
-    except (Mistake, Failure) as error:
-        raise Failure(placed(name, in_line(getattr(error, "line", 0), error)))
 
 
 def refuse(ground, table_name, table, book_name, book, said):

@@ -1,5 +1,6 @@
 """What the command is given: a text or the bytes of a job or a book, told apart by what is in them, not by the name."""
 
+import contextlib
 import os
 from typing import NamedTuple
 
@@ -9,7 +10,7 @@ from textform.files import UTF_16, is_bytes, text_of
 from textform.hours import hours_text, may_be_whole_hours
 from textform.said import said_of, without_lines
 from textform.text import Text, read_text
-from textform.words import Mistake
+from textform.words import Mistake, in_line, placed
 
 from .tool import Failure, read_file
 
@@ -32,6 +33,15 @@ def bytes_in(name):
         return read_file(name)
     except Failure as failure:
         raise Failure(str(failure).removeprefix(f"{name}: "))
+
+
+@contextlib.contextmanager
+def told_of(name):
+    """What is wrong within is told as a failure of this file, with its line where it has one."""
+    try:
+        yield
+    except (Mistake, Failure) as error:
+        raise Failure(placed(name, in_line(getattr(error, "line", 0), error)))
 
 
 def check_no_text(data):

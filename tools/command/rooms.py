@@ -3,11 +3,11 @@
 from textform.chain import book_of
 from textform.files import text_of
 from textform.text import KINDS, ROOM_WORDS, Text
-from textform.words import Mistake, in_line, placed
+from textform.words import Mistake, placed
 
 from .building import make_ready
 from .columns import columns_of, is_replaced
-from .given import bytes_in
+from .given import bytes_in, told_of
 from .judging import judged_all
 from .numerals import listed
 from .results import check_new, old_aside, write_results
@@ -46,12 +46,10 @@ def answered(book_name, rooms_name, results_name, is_forced):
 
 def read_book(name):
     """The text of the book, with the lines of a job that it has."""
-    try:
+    with told_of(name):
         source = text_of(bytes_in(name))
         text = Text(source)
         check_chain(text)
-    except (Mistake, Failure) as error:
-        raise Failure(placed(name, in_line(getattr(error, "line", 0), error)))
     return Lines(name, source, {word: line for word, (_, line) in text.fields.items() if word in ROOM_WORDS})
 
 
