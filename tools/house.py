@@ -16,7 +16,7 @@ from command import building, crates
 
 ROOT = pathlib.Path(__file__).resolve().parents[1]
 EXAMPLES = ROOT / "examples"
-PROGRAMS = ("screen", "fan", "partner", "table", "opening", "marks")
+PROGRAMS = ("screen", "fan", "partner", "table", "opening", "marks", "portfolio")
 LONG_AGO = 10**9  # seconds; when the sources of the copy were changed
 
 STAND_IN = f"""#!{sys.executable}

@@ -19,6 +19,7 @@ def fan(_words):
 
 
 JOB, HEAD, MEMBER, HALF_LIFE, NUMBERS = 48, 8, 32, 8, 20  # bytes of each
+MOST_MEMBERS, HIGHEST = 16, 2**32 - 1
 
 
 def with_second(job, second):
@@ -66,6 +67,18 @@ def table(words):
 def marks(words):
     book, table = words
     return reference.marks_answer(bytes_in(table), bytes_in(book))
+
+
+def portfolio_lines(rates, book):
+    """A line for each rate: each member's factor, or the number of the refusal."""
+    for rate in rates:
+        said = reference.factor_call(rate, book, MOST_MEMBERS)
+        yield f"{rate} refused {said}\n" if isinstance(said, int) else f"{' '.join(map(str, [rate, *said]))}\n"
+
+
+def portfolio(words):
+    first, last, step = (min(number, HIGHEST) for number in numbers(words[1:]))
+    return "".join(portfolio_lines(range(first, last + 1, step), bytes_in(words[0])))
 
 
 def opening(words):

@@ -94,7 +94,8 @@ def test_usage(home):
     status, out, said = home.run("--help")
     assert (status, said) == (0, "") and max(map(len, out.splitlines())) <= 100
     commands = [line.split()[1] for line in out.splitlines()]
-    assert commands == ["screen", "rooms", "fan", "table", "check", "opening", "encode", "decode", "explain", "--help"]
+    assert commands == [
+        "screen", "rooms", "fan", "table", "portfolio", "check", "opening", "encode", "decode", "explain", "--help"]
     assert home.run("help") == home.run("-h") == (status, out, said)
     for word in ("--help", "-h"):
         for name, line in zip(commands[:-1], out.splitlines()):
@@ -117,7 +118,7 @@ def test_usage(home):
 def test_manual(home):
     """The manual has the form of each command."""
     manual = (ROOT / "docs" / "COMMAND.md").read_text(encoding="utf-8")
-    for line in home.run("--help")[1].splitlines()[:6]:
+    for line in home.run("--help")[1].splitlines()[:7]:
         form = line.partition("./jelmorand ")[2].partition("  ")[0]
         assert f"| `{form}` |" in manual, form
 
@@ -136,7 +137,8 @@ def test_closed_output(home):
 def test_closed_input(home):
     """What is lent to a program beside its input is the same where the command has no input at all."""
     for words in (("check", "examples/a-1.table", "examples/actinon.txt"),
-                  ("screen", "examples/workroom.txt", "--coefficients", "examples/partner.txt")):
+                  ("screen", "examples/workroom.txt", "--coefficients", "examples/partner.txt"),
+                  ("portfolio", f"{RADON}.txt", "0", "36", "18")):
         line = f"exec ./jelmorand {' '.join(words)} <&-"
         done = subprocess.run(["sh", "-c", line], cwd=home.folder, capture_output=True, timeout=300, check=False)
         assert (done.returncode, done.stdout.decode(), done.stderr.decode()) == home.run(*words), words

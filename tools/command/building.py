@@ -12,6 +12,7 @@ SAMPLE = str(ROOT / "examples" / "radon.book")
 TRIAL = {  # the arguments of the run with which a program is built; with none it answers an empty job
     "table": [SAMPLE, "18"],
     "opening": [SAMPLE, "18", "1"],
+    "portfolio": [SAMPLE, "18", "18", "1"],
     "marks": [SAMPLE, SAMPLE],  # any bytes do for a table: they are refused
     "partner": [SAMPLE],  # any bytes do for a set: the empty job beside them is refused first
 }

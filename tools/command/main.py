@@ -6,6 +6,7 @@ import book
 
 from .check import check
 from .passing import FACTORS, TABLE, fan, of_book, to_tool
+from .portfolio import portfolio
 from .rooms import rooms
 from .screen import screen
 from .tool import CLEARED, FAILED, STOPPED, Failure, Usage, put, tell
@@ -22,6 +23,7 @@ COMMANDS = {  # each with what follows it, and what it is for
     "rooms": (rooms, "[--force] BOOK.txt ROOMS.csv RESULTS.csv", "many rooms of one book"),
     "fan": (fan, "FILE..", "the lowest rate that is 'below'"),
     "table": (of_book("table", TABLE, 0), "FILE [RATE..]", "shares in the air at each rate"),
+    "portfolio": (portfolio, "FILE FROM TO STEP", "factors at many rates"),
     "check": (check, "[--report] TABLE BOOK", "a table from elsewhere, marked"),
     "opening": (of_book("opening", FACTORS, 1), "FILE RATE MINUTES.. [every N]", "shares after periods of airing"),
     "encode": (to_tool("encode"), tool_form("encode"), "a text into a job, book or set"),

@@ -4,13 +4,15 @@ import contextlib
 import fcntl
 import os
 import re
+import select
 import subprocess
 from typing import NamedTuple, Optional
 
 from .building import path_of
 from .tool import Failure
 
-LONGEST = 60  # seconds; an answer takes a few thousandths of one
+LONGEST = 60  # seconds; an answer takes a few thousandths of one, and so does each part of a long one
+PIECE = 1 << 16  # bytes; as many as wait at most to be read
 STANDARD_INPUT = "/dev/stdin"  # as a file's name
 FIRST_OTHER = 3  # the first number of an open file that is neither the input nor an output
 REPORT = re.compile(
@@ -58,6 +60,31 @@ def asked(name, data, *words, lent=()):
     if done.returncode != 0 or not done.stdout:
         raise Failure(f"{name}: {said or f'no answer (status {done.returncode})'}")
     return done.stdout.decode("ascii", errors="replace")
+
+
+def streamed(name, take, *words, lent=()):
+    """Gives `take` what a program writes, piece by piece as it comes. The lines that it says of itself go where the command's go."""
+    command = [path_of(name), *words]
+    try:
+        program = subprocess.Popen(command, stdin=subprocess.DEVNULL, stdout=subprocess.PIPE, pass_fds=lent)
+    except OSError as error:
+        raise Failure(f"{name}: no answer: {error.strerror or error}")
+    with program:
+        try:
+            while piece := next_piece(name, program.stdout.fileno()):
+                take(piece.decode("ascii", errors="replace"))
+        except BaseException:
+            program.kill()
+            raise
+    if program.returncode != 0:
+        raise Failure(f"{name}: no whole answer (status {program.returncode})")
+
+
+def next_piece(name, output):
+    """What is there to be read, or nothing at the end."""
+    if not select.select([output], [], [], LONGEST)[0]:
+        raise Failure(f"{name}: nothing more within {LONGEST} seconds")
+    return os.read(output, PIECE)
 
 
 @contextlib.contextmanager
