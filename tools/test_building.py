@@ -27,7 +27,7 @@ def put_prover(home):
     (home.folder / "bin").mkdir()
     (home.folder / "bin" / "rt").write_text(PROVER)
     (home.folder / "bin" / "rt").chmod(0o755)
-    for name in ("screen", "fan", "partner", "table", "marks"):
+    for name in ("screen", "fan", "partner", "table", "marks", "portfolio"):
         home.program(name).rename(home.folder / "crates" / name / "made")
     return home.folder / "bin"
 
@@ -89,12 +89,29 @@ def test_check(home):
     assert (status, said) == (2, "none.table: No such file or directory\n") and asked(home) == []  # before anything is built
 
 
+@house_test
+def test_portfolio(home):
+    """A run over many rates asks for its own program alone, which is run at one rate to build it."""
+    path = put_prover(home)
+    limits = "0", "36", "18"
+    status, out, said = home.run("portfolio", "examples/radon.txt", *limits, path=path)
+    needed = crates.below(["portfolio"])
+    assert status == 0 and out.count("\n") == 3 and said.startswith(f"portfolio: not built yet; proving and building {len(needed)} crates, ")
+    *libraries, last = asked(home)
+    assert libraries == [f"{crate} lib" for crate in needed[:-1]] and "portfolios lib" in libraries and "balance lib" in libraries
+    assert last.startswith("portfolio run -- /") and last.endswith("/examples/radon.book 18 18 1")
+    assert home.run("portfolio", "examples/radon.txt", *limits, path=path) == (0, out, "") and asked(home) == []
+    home.program("portfolio").unlink()
+    for words in (("none.txt", *limits), ("examples/radon.txt", "0", "0.36", "18")):
+        assert home.run("portfolio", *words, path=path)[0] == 2 and asked(home) == []  # before anything is built
+
+
 def test_order():
     """A crate comes after all that it uses, and no crate that the programs do without is proved."""
     needed, uses = crates.below(["screen", "fan"]), crates.listed()
     for i, name in enumerate(needed):
         assert all(library in needed[:i] for library in uses[name] if library in uses), name
-    assert {"minutes", "tables", "table", "jelmorand"}.isdisjoint(needed) and "verdict" in needed
+    assert {"minutes", "tables", "table", "portfolios", "jelmorand"}.isdisjoint(needed) and "verdict" in needed
     assert set(crates.below(["table"])) >= {"table", "tables", "book"} and "verdict" not in crates.below(["table"])
 
 

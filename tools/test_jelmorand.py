@@ -13,13 +13,14 @@ import test_building  # noqa: E402  (the tests use the reference, which stands t
 import test_check  # noqa: E402
 import test_coefficients  # noqa: E402
 import test_passing  # noqa: E402
+import test_portfolio  # noqa: E402
 import test_rooms  # noqa: E402
 import test_screening  # noqa: E402
 from tally import run_tests, say_passed  # noqa: E402
 
 
 def main():
-    modules = (test_screening, test_coefficients, test_building, test_rooms, test_passing, test_check)
+    modules = (test_screening, test_coefficients, test_building, test_rooms, test_passing, test_check, test_portfolio)
     say_passed(sum(run_tests(vars(module)) for module in modules))
 
 
