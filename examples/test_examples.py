@@ -24,7 +24,7 @@ FROM_ELSEWHERE = HERE / "a-1.table"
 
 sys.path[:0] = [str(SOURCES), str(BOOK.parent)]
 import reference
-from stand_ins import partner_answer
+from stand_ins import HIGHEST, partner_answer, portfolio_lines
 from tally import say_passed
 
 
@@ -264,6 +264,56 @@ def check_opening_refusals(radon):
     check_text("opening", 0, 5)
 
 
+def run_over(*words):
+    return output("portfolio", *words)
+
+
+RUNS = ((0, 99_990, 10), (0, 36, 18), (0, 35, 18), (18, 18, 1), (99_990, 100_020, 10), (100_000, 100_001, 1), (7, 100, HIGHEST),
+        (0, HIGHEST, HIGHEST), (HIGHEST - 5, HIGHEST, 2), (HIGHEST, HIGHEST, 1))
+
+
+def check_portfolio():
+    """Runs of each gas, and at both ends of the numbers, and the whole of one; books that are refused, and what is no run."""
+    for gas in GASES:
+        path, data = HERE / f"{gas}.book", (HERE / f"{gas}.book").read_bytes()
+        for first, last, step in RUNS:
+            said = "".join(portfolio_lines(range(first, last + 1, step), data))
+            assert run_over(path, first, last, step) == answered(said), (gas, first, last, step, newest("portfolio"))
+    radon = HERE / "radon.book"
+    said = answered("".join(portfolio_lines(range(0, 37, 18), radon.read_bytes())))
+    assert run_over(radon, "000", "0036", "018") == output("portfolio", "/dev/stdin", 0, 36, 18, given=radon.read_bytes()) == said
+    assert run_over(radon, 0, 10**40, 2**32 + 18) == run_over(radon, 0, HIGHEST, HIGHEST)
+    assert run_over(radon, 0, 100_000, 1)[0].count(b"\n") == 100_001
+    with tempfile.TemporaryDirectory() as folder:
+        check_run_refusals(radon.read_bytes(), pathlib.Path(folder) / "book")
+    check_no_run(radon)
+    check_unreadable("portfolio", 0, 36, 18)
+
+
+def check_run_refusals(good, path):
+    """The ground stands in the line of each rate; 3 comes before those of the book."""
+    for data in (good[:-1], good[:8], good[:7], b"", good + b"\0", good + bytes(5_000), bytes(8), good[:4] + b"\1" + good[5:],
+                 good[:8] + bytes(8) + good[16:]):
+        path.write_bytes(data)
+        said = "".join(portfolio_lines(range(99_999, 100_002), data))
+        assert said.endswith("100001 refused 3\n") and said.count("refused") == 3
+        assert run_over(path, 99_999, 100_001, 1) == answered(said), (data[:16], newest("portfolio"))
+
+
+def check_no_run(radon):
+    """One line and no more."""
+    wrong = [[0, 18, 0], [19, 18, 1], [HIGHEST, 0, 1], [0], [0, 1], [0, 1, 1, 1], []]
+    for word in ("0.18", "", "-1", "+1", "1e2", "18 ", "x", "1_0", "--help"):
+        wrong += [[word, 36, 18], [0, word, 18], [0, 36, word]]
+    for words in wrong:
+        out, said, status = run_over(radon, *words)
+        assert (out, status) == (b"", 1) and said.count("\n") == 1 and said.endswith("\n"), (words, out[:100], said)
+    for text in sorted(HERE.glob("*.txt")):
+        out, said, status = run_over(text, 0, 36, 18)
+        assert status == 0 and out == "".join(portfolio_lines((0, 18, 36), text.read_bytes())).encode() and b"0 refused " in out, text
+    check_help("portfolio", "usage: portfolio BOOKFILE FROM TO STEP", radon)
+
+
 def marked(book, table):
     """What `marks` is to say of a table by a book."""
     return answered(reference.marks_answer(table, book.read_bytes()))
@@ -303,7 +353,7 @@ def check_marked_texts(book, folder):
 
 
 CHECKS = {"opening": check_opening, "table": check_table_program, "fan": check_fan, "screen": check_screen, "partner": check_partner,
-          "marks": check_marks}
+          "marks": check_marks, "portfolio": check_portfolio}
 
 
 def check_programs():
