@@ -24,11 +24,15 @@ sys.path.insert(0, str(ROOT / "tools"))
 from command.building import is_late  # noqa: E402
 
 PAGES = ("README.md", *(f"docs/{name}.md" for name in (
-    "COMMAND", "ROOMS", "TEXT", "FAN", "TABLE", "CHECK", "OPENING", "COEFFICIENTS", "REFUSALS")))
+    "COMMAND", "ROOMS", "TEXT", "FAN", "TABLE", "PORTFOLIO", "CHECK", "OPENING", "COEFFICIENTS", "REFUSALS")))
 INDENT = "    "
 COMMAND = INDENT + "$ "
 PROGRAMS = ("screen", "fan", "table", "opening")
-MORE = {" --coefficients ": "partner", "./jelmorand check ": "marks"}  # what is asked where this stands in a command
+MORE = {  # what is asked where this stands in a command
+    " --coefficients ": "partner",
+    "./jelmorand check ": "marks",
+    "./jelmorand portfolio ": "portfolio",
+}
 
 
 def parts_of(page):
