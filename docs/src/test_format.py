@@ -1,5 +1,5 @@
 """docs/FORMAT.md against the packer and the reference: its dumps, texts and offsets, its concentrations, its entries of a
-table and what such entries are read back as.
+table and what such entries are read back as, its lines and rows of many rates.
 
     test_format.py
 """
@@ -13,6 +13,7 @@ from fractions import Fraction
 import reference as ref
 from packing import bits, pack_book, pack_feed, pack_job, pack_member, pack_numbers
 from plain_help import answer_help
+from small_books import T1, daughter
 from tally import run_tests, say_passed
 
 PAGE = pathlib.Path(__file__).resolve().parents[1].joinpath("FORMAT.md").read_text(encoding="utf-8")
@@ -121,6 +122,49 @@ def test_read_back():
     assert len(re.findall("`(.{9})`", none)) == 4
     for word in re.findall("`(.{9})`", none):
         assert ref.marks_answer(line.replace(rows[1][0], word).encode(), book) == "refused 24\n", word
+
+
+def at_many_rates(rates, book, width, answers, rows):
+    """Puts into the two lists what the factor call answers and leaves, and says for how many rates."""
+    for k, (rate, _) in enumerate(zip(rates, answers)):
+        said = ref.factor_call(rate, book, len(rows[k * width :][:width]))
+        if isinstance(said, int):
+            answers[k] = -said
+        else:
+            answers[k] = len(said)
+            rows[k * width : k * width + len(said)] = said
+    return min(len(rates), len(answers))
+
+
+def places(name):
+    """The numbers of a list of the example of rows."""
+    return [int(word) for word in re.search(rf"^\| {name} \| ([\d -]+) \|$", PAGE, re.MULTILINE)[1].split()]
+
+
+def test_rows():
+    """The example's answers and rows are what the factor call answers and leaves, rate by rate."""
+    width = int(re.search(r"a width of (\d+), three places for answers and 7 for rows", PAGE)[1])
+    answers, rows = places("answers before"), places("rows before")
+    assert (len(answers), len(rows)) == (3, 7)
+    assert at_many_rates(places("rates"), daughter(T=T1), width, answers, rows) == 3
+    assert (answers, rows) == (places("answers after"), places("rows after"))
+
+
+def line_of(rate, book):
+    said = ref.factor_call(rate, book, 16)
+    return f"{rate} refused {said}" if isinstance(said, int) else " ".join(map(str, [rate, *said]))
+
+
+def test_lines():
+    """Each rate has the line that the page says, and the longest line has the length that it says."""
+    shown = re.findall(r"^\| ([\d,]+) \| `(.*)` \|$", PAGE, re.MULTILINE)
+    assert [rate for rate, _ in shown] == ["0", "100", "100,000", "100,001"] and f"{T1:,} ns" in PAGE
+    for rate, line in shown:
+        assert line_of(int(rate.replace(",", "")), daughter(T=T1)) == line, rate
+    for n in (1, 2, 16):
+        line = line_of(100_000, pack_book([pack_member(1)] + [pack_member(1, first=k) for k in range(1, n)],
+                                          [pack_feed(100_000, k) for k in range(n - 1)]))
+        assert len(line) + 1 == 14 * n + 7 and "at most 14 n + 7 characters" in PAGE
 
 
 def field_sizes(form):
