@@ -20,7 +20,7 @@ from textform import grounds  # noqa: E402
 
 MOST_LINES = 150  # of the README
 MOST_WORDS = 500  # of a note
-NOTES = ("R-1", "R-2", "R-3", "R-4", "R-5", "R-6", "R-7", "R-8", "house")
+NOTES = ("R-1", "R-2", "R-3", "R-4", "R-5", "R-6", "R-7", "R-8", "R-9", "house")
 PAGES = [ROOT / "README.md", *sorted((ROOT / "docs").glob("*.md")), *sorted((ROOT / "docs" / "changes").glob("*.md"))]
 LINK = re.compile(r"\]\(([^)\s]+)\)")
 HEADING = re.compile(r"^#+ (.*)$", re.MULTILINE)
