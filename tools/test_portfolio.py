@@ -216,7 +216,7 @@ def most_held(home, rates):
 
 @house_test
 def test_memory(home):
-    """As many lines as there are rates, 23 megabytes, and not one of them is kept. (The prover's own output is not looked at.)"""
+    """A line for each rate that there is, 23 megabytes, and none of them is kept."""
     few, all_of_them = most_held(home, 10), most_held(home, LONG_RATES)
     out = (home.folder / "out").read_bytes()
     assert len(out) > 22_000_000 and out.count(b"\n") == LONG_RATES and out.endswith(b" 1099511627776\n")
@@ -231,7 +231,7 @@ def test_no_answer(home):
         home.put_program("portfolio", "#!/bin/sh\ncat text\n")
         status, out, words = home.run("portfolio", f"{RADON}.txt", 0, 20, 10)
         assert (status, words) == (2, said) and (shown is None or out == shown), (text[:60], status, out[:60], words[:200])
-    home.program("portfolio").write_text("#!/bin/sh\ncat text; sleep 0.1; echo 20 7 3; echo 30 7 2\n")
+    home.program("portfolio").write_text("#!/bin/sh\ncat text; sleep 0.1; printf '20 7 3\\n30 7 2\\n'\n")
     home.write("text", "0 7 5\n10 7 4\n")
     assert home.run("portfolio", f"{RADON}.txt", 0, 20, 10) == (2, "0 7 5\n10 7 4\n", f"{NONE}'30 7 2'\n")
 
