@@ -18,12 +18,13 @@ for rate in range(0, {{rates}}):
     print(rate, *[1099511627776] * 16)
 """
 LONG_RATES = 100_001
-NONE, CUT = "portfolio: no answer: ", "portfolio: no whole answer: it ends before the last rate's line does\n"
+NONE, CUT = "portfolio: no answer: ", "portfolio: no whole answer: it ends within a line, or before the last rate\n"
 THREE = "0 7 5\n10 7 4\n20 7 3\n"
 NO_ANSWERS = {  # what a program writes for the rates 0, 10 and 20, and what of it is shown with which words
     "": ("", CUT),
     "0 7 5\n10 7 4\n": ("0 7 5\n10 7 4\n", CUT),
     THREE[:-1]: ("0 7 5\n10 7 4\n", CUT),
+    THREE + "30": (THREE, CUT),
     THREE + "30 7 3\n": ("", f"{NONE}'30 7 3'\n"),
     THREE + "\n": ("", f"{NONE}''\n"),
     THREE.replace("10", "20"): ("", f"{NONE}'20 7 4'\n"),
@@ -91,7 +92,10 @@ def test_refused_rates(home):
     out = lines((99_990, 100_000, 100_010, 100_020), book_of("radon"))
     assert out.endswith("\n100010 refused 3\n100020 refused 3\n") and out.startswith("99990 1099511627776 ")
     status, shown, said = home.run("portfolio", f"{RADON}.txt", 99_990, 100_020, 10)
-    assert (status, shown) == (2, out) and said == f"{RADON}.txt: {ground(3)} Where to look: rate.\n"
+    words = f"{RADON}.txt: {ground(3)} Where to look: rate.\n"
+    assert (status, shown, said) == (2, out, words)
+    out = lines(range(100_001, 130_001), book_of("radon"))
+    assert len(out) > 500_000 and home.run("portfolio", f"{RADON}.txt", 100_001, 130_000, 1) == (2, out, words)
 
 
 @house_test
@@ -285,4 +289,6 @@ print("{HIGHEST} 7")
     for form in ("txt", "job", "book"):
         assert home.run("portfolio", f"{RADON}.{form}", "00", 10**40, 2**32) == (0, f"0 7\n{HIGHEST} 7\n", ""), form
     files = home.files()
-    assert home.run("portfolio", f"{RADON}.txt", "00", 10**40, 2**32)[0] == 0 and home.files() == files
+    with started(home, 0, HIGHEST, HIGHEST, stdin=subprocess.PIPE) as command:
+        assert command.communicate(b"more", timeout=60) == (f"0 7\n{HIGHEST} 7\n".encode(), b"") and command.returncode == 0
+    assert home.files() == files

@@ -91,7 +91,7 @@ class Lines:
 
     def end(self):
         if self.rest or next(self.rates, None) is not None:
-            raise Failure("portfolio: no whole answer: it ends before the last rate's line does")
+            raise Failure("portfolio: no whole answer: it ends within a line, or before the last rate")
 
 
 def no_answer(line):
