@@ -1,15 +1,15 @@
-"""No list of factors but the lent one: every array in the source of the crates that the two calls for factors reach.
+"""No list of factors but the lent ones: every array in the source of the crates that the three calls for factors reach.
 
     test_arrays.py
 
 Every place where these crates write an array type or an array literal, or have a function make an array, must be on
 the lists below. A factor takes 41 bits, so an array of narrower elements holds none; of a struct the fields are looked
 up in the source, and of another name of a type what it stands for. Those with wider elements are the half-lives and the
-sums of the shares, in the crate of the book, which works out no factor, and the columns of a wide number, which neither
-call reaches. The crates that do work out factors own no array, and have every other lent, or held in a chain. They
-write to the lent list alone, and a chain they only read from a book, accept, ask and hand on, so that it keeps what was
-read into it. What the search would miss is tried too: spare lists, put into the source in several ways, must each be
-found. Prints the arrays that each call meets on its way, with their bytes.
+sums of the shares, in the crate of the book, which works out no factor, and the columns of a wide number, which no call
+reaches. The crates that do work out factors own no array, and have every other lent, or held in a chain. They write
+to the lent lists alone, and a chain they only read from a book, accept, ask and hand on, so that it keeps what was read
+into it. What the search would miss is tried too: spare lists, put into the source in several ways, must each be found.
+Prints the arrays that each call meets on its way, with their bytes.
 """
 
 import functools
@@ -45,7 +45,7 @@ LISTED = {
     "wide/src/number.rt": {"limbs: [u32; 6]"},
 }
 
-# The columns of a wide number and the limbs that they become. Neither call reaches them.
+# The columns of a wide number and the limbs that they become. No call reaches them.
 COLUMNS = {
     "wide/src/columns.rt": {"columns: [u64; 6]", "let mut limbs = [0; 6]"},
     "wide/src/arithmetic.rt": {
