@@ -83,6 +83,7 @@ pub(crate) fn run_next(
     ensures { NextRun width chain.now.bytes.now rates.now answers.old rows.old result answers.new rows.new }
 {
     if let Ok(()) = found {
+        // Lent again, for the four rows alone.
         let accepted = AcceptedChain { chain: &*chain };
         if accepted.members() <= width && width <= rows.len() / 4 {
             if let Some(v) = four_rates(rates) {
