@@ -25,7 +25,8 @@ pub fn member_factor(inflow: u64, scale: u64, half_life: u64, v: Rate) -> u64
 
 // The factors of every member of an accepted book at rate `v`, into the first places of `out`. They are made in member
 // order, and each is read back from its place by the members that it feeds. Rate and chain stay two parameters, here
-// and above: many rates are taken of one chain. Within a caller it would have the chain copied once more onto the stack.
+// and above: many rates are taken of one chain. Within a caller it would have the chain copied once more onto the
+// stack.
 #[inline(never)]
 pub fn fill_accepted(v: Rate, chain: AcceptedChain<'_>, out: &mut [u64])
     requires { members chain.chain.now.bytes.now ≤ length out.old }

@@ -47,6 +47,7 @@ module _ {A : Type 0} (text : A → List ℕ) (list : List A) (i : ℕ) where
         sym (spaced_next other l),
       ) ahead)
 
-  pub all_written : {whole : List ℕ} (written : List ℕ) → length list ≤ i → written ++ spaced text (drop i list) ≡ whole →
+  pub all_written :
+      {whole : List ℕ} (written : List ℕ) → length list ≤ i → written ++ spaced text (drop i list) ≡ whole →
       written ≡ whole
   all_written written past ahead = sym (append-nil written) ∙ rw (sym (spaced_done past)) ahead

@@ -1,6 +1,7 @@
 -- What is written of a recorded case of each kind, given its body. Numbers in a body are little-endian.
 use Rattle.refusals.specs.declared.Refusal.{Refusal}
-use Rattle.std.specs.Prelude.{ℕ, suc, ℤ, pos, negsuc, ◌+◌, ◌*◌, List, [], ◌∷◌, ◌++◌, length, take, drop, replicate, Result, Ok, Err}
+use Rattle.std.specs.Prelude.{ℕ, suc, ℤ, pos, negsuc, ◌+◌, ◌*◌, Result, Ok, Err}
+use Rattle.std.specs.Prelude.{List, [], ◌∷◌, ◌++◌, length, take, drop, replicate}
 use Rattle.refusals.specs.Grounds.{refusal_number}
 use Rattle.numbers.specs.Bytes.{u16_at, u32_at}
 use Rattle.book.specs.Held.{up_to}
@@ -75,8 +76,8 @@ signed (pos n) = decimal n
 signed (negsuc n) = ascii "-" ++ decimal (suc n)
 
 -- The call for many rates: a row's width, how many places the answers have, how many the rows, how many rates there are
--- (u16 each), the rates (u32 each), the book. One line: how many rates were run, a colon, every answer after the call, a
--- colon, and every place of the rows.
+-- (u16 each), the rates (u32 each), the book. One line: how many rates were run, a colon, every answer after the call,
+-- a colon, and every place of the rows.
 abbrev pub rates_case : List ℕ → List ℕ
 rates_case body =
     let width = u16_at body 0 in

@@ -11,7 +11,8 @@ use portfolios::factors_at_rates;
 // As long as any line is.
 pub const LINE_ROOM: usize = 357;
 
-// The line of every rate, at the end of `out`: where they begin. Answers and rows are worked out in the lists beside it.
+// The line of every rate, at the end of `out`: where they begin. Answers and rows are worked out in the lists beside
+// it.
 pub fn write_lines(
     rates: &[u32],
     book: &[u8],

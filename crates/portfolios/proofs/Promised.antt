@@ -1,9 +1,9 @@
 -- What is promised of many rates: each row is what the factor call leaves at its rate, by one induction over the
 -- rates, so the promises of one call and of two hold of each row and of two rows.
 use Prim.Native.Nat.{ℕ, zero, suc, ◌+◌, ◌*◌, ◌≤◌, ◌<◌, min}
-use native.Mathlib.Nat.{zero-mul}
+use native.Mathlib.Nat.{zero-mul, min_comm}
 use native.Mathlib.Omega.{arith}
-use mathlib.Core.Path.{◌≡◌, refl, ap, sym, ◌∙◌}
+use mathlib.Core.Path.{◌≡◌, refl, ap, ap₂, sym, ◌∙◌}
 use mathlib.Core.List.{List, [], ◌∷◌, ◌++◌}
 use Rattle.std.specs.Prelude.{ℤ, pos}
 use Rattle.std.proofs.lemmas.List.{length-append, length-take, length-drop, take_at, drop_at, take_min, drop_min}
@@ -113,6 +113,23 @@ run_promises =
       of_each_row = of_each_row;
       of_two_rows = of_two_rows;
     }
+
+-- What the call leaves, by how many of the rates it runs: the answers there, and then what stood past the last rate's.
+module _ (rates : List ℕ) (answers : List ℤ) {count : ℕ} (counted : count ≡ min (length rates) (length answers)) where
+  run_is : take count rates ≡ rates_run rates answers
+  run_is =
+      ap (λ n. take n rates) (counted ∙ min_comm (length rates) (length answers)) ∙ take_min (length answers) rates
+
+  module _ (book : List ℕ) (width : ℕ) (rows : List ℕ) where
+    pub answers_as_defined : {given : List ℤ} → given ≡ answers_at width book (take count rates) rows →
+        given ++ drop count answers ≡ answers_left rates book width answers rows
+    answers_as_defined is =
+        ap₂ (λ given rest. given ++ rest) (is ∙ ap (λ run. answers_at width book run rows) run_is)
+        (ap (λ n. drop n answers) counted ∙ drop_min (length rates) answers)
+
+    pub rows_as_defined : {left : List ℕ} → left ≡ rows_at width book (take count rates) rows →
+        left ≡ rows_left rates book width answers rows
+    rows_as_defined is = is ∙ ap (λ run. rows_at width book run rows) run_is
 
 -- Of the lists that the call leaves: the answers at the rates that are run stand in front.
 pub kept : (rates book : List ℕ) (width : ℕ) (answers : List ℤ) (rows : List ℕ) {given : List ℤ} {left : List ℕ} →

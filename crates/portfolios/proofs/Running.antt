@@ -5,7 +5,8 @@ use native.Mathlib.Omega.{arith}
 use mathlib.Core.Path.{◌≡◌, refl, ap, sym, ◌∙◌}
 use mathlib.Core.List.{List, [], ◌++◌}
 use Rattle.std.specs.Prelude.{ℤ}
-use Rattle.std.proofs.lemmas.List.{length-append, length-drop, length-take, append_assoc, take-append-drop, drop-drop, append-nil}
+use Rattle.std.proofs.lemmas.List.{length-append, length-drop, length-take, append_assoc, append-nil}
+use Rattle.std.proofs.lemmas.List.{take-append-drop, drop-drop}
 use Rattle.std.proofs.lemmas.List.{length-take-le}
 use lib.ListN.{length, take, drop, drop_of_length-le}
 use lib.Seq.{take_all, take_at, drop_at}
@@ -85,7 +86,8 @@ module _ {width : ℕ} {book rates rows : List ℕ} {i at : ℕ} {answers_now : 
       ) in
       let answers_done : take (i + count) (take i answers_now ++ answers) ≡ take i answers_now ++ given =
       rw next.answered
-      (before (take i answers_now) given (drop count (drop i answers_now)) (i + count) (omega (arith, old_size, given_size)))
+      (before (take i answers_now) given (drop count (drop i answers_now)) (i + count)
+      (omega (arith, old_size, given_size)))
       in
       let rows_done : take end (take at rows_now ++ left) ≡ take at rows_now ++ row =
       rw next.filled (before (take at rows_now) row (drop (count * width) room) end rows_size) in
@@ -102,7 +104,14 @@ module _ {width : ℕ} {book rates rows : List ℕ} {i at : ℕ} {answers_now : 
       ∙ (rw counted at (rows_append width book (take count ahead) (drop count ahead) room)) in
       record {
         turns = omega (arith, running.turns, next.within, length-drop i rates);
-        place = omega (arith, rows_size, length-append (take at rows_now) left, ap length next.filled, length-append row behind_row);
+        place =
+            omega (
+              arith,
+              rows_size,
+              length-append (take at rows_now) left,
+              ap length next.filled,
+              length-append row behind_row,
+            );
         count =
             omega (
               arith,

@@ -50,12 +50,14 @@ module _ (width : ℕ) (book : List ℕ) where
     answer_of v list low room =
         let passes : CallPasses v book (length (take width list)) =
         record { rate = low; accepted = accepted; enough = omega (arith, length-take-le width list room) } in
-        ap (λ found. answer_number (answer_if found (members book))) (passing_call v book (length (take width list)) passes)
+        ap (λ found. answer_number (answer_if found (members book)))
+        (passing_call v book (length (take width list)) passes)
 
     next_answer : (v : ℕ) (rates list : List ℕ) → v ≤ max_rate → width ≤ length list →
         answers_at width book (v ∷ rates) list ≡ pos (members book) ∷ answers_at width book rates (drop width list)
     unfolding answers_at
-    next_answer v rates list low room = ap (λ n. n ∷ answers_at width book rates (drop width list)) (answer_of v list low room)
+    next_answer v rates list low room =
+        ap (λ n. n ∷ answers_at width book rates (drop width list)) (answer_of v list low room)
 
     pub four_run :
         {a b c d : ℕ} {rates : List ℕ} {answers : List ℤ} {rows : List ℕ} {given : List ℤ} {left : List ℕ} →

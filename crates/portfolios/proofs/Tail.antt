@@ -20,14 +20,16 @@ module _ {A : Type 0} (at : ℕ) (list : List A) where
     none_behind = drop_of_length-le (drop at list) (omega (arith, length-drop at list))
 
     tail_written : put_mid at (length list - at) list tail ≡ take at list ++ tail
-    tail_written = ap (λ behind. take at list ++ (tail ++ behind)) none_behind ∙ ap (λ t. take at list ++ t) (append-nil tail)
+    tail_written =
+        ap (λ behind. take at list ++ (tail ++ behind)) none_behind ∙ ap (λ t. take at list ++ t) (append-nil tail)
 
     written_length : length (put_mid at (length list - at) list tail) ≡ length list
     written_length =
         ap length tail_written ∙ length-append (take at list) tail ∙ omega (arith, size, length-take-le at list within)
 
 pub more_in_place :
-    {width : ℕ} {book rates rows : List ℕ} {i at count end : ℕ} {answers_now answers : List ℤ} {rows_now left : List ℕ} →
+    {width : ℕ} {book rates rows : List ℕ} {i at count end : ℕ}
+    {answers_now answers : List ℤ} {rows_now left : List ℕ} →
     Running width book rates rows i at answers_now rows_now →
     NextRun width book (take (length rates - i) (drop i rates))
     (take (length answers_now - i) (drop i answers_now))

@@ -42,9 +42,8 @@ fn run_four(
     requires lent { 4 ≤ length answers.old }
     ensures answers { let n = pos (members chain.entry.chain.now.bytes.now) in
         answers.new ≡ n ∷ n ∷ n ∷ n ∷ drop 4 answers.old }
-    ensures rows { rows.new
-        ≡ rows_at width chain.entry.chain.now.bytes.now (v.a.hundredths ∷ v.b.hundredths ∷ v.c.hundredths ∷ v.d.hundredths ∷ [])
-        (take (4 * width) rows.old)
+    ensures rows { let rates = v.a.hundredths ∷ v.b.hundredths ∷ v.c.hundredths ∷ v.d.hundredths ∷ [] in
+        rows.new ≡ rows_at width chain.entry.chain.now.bytes.now rates (take (4 * width) rows.old)
         ++ drop (4 * width) rows.old }
 {
     four_rows(v, chain, width, &mut rows[..4 * width]);

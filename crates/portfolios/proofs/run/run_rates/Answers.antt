@@ -5,7 +5,8 @@ use Rattle.portfolios.proofs.Tail.{more_in_place}
 use Rattle.portfolios.proofs.run.run_rates.Goals as goal
 
 pub loop-i-init : goal.loop-i-init
-loop-i-init c = begun c.args.width c.args.chain.now.bytes.now c.args.rates.now c.args.rows.now c.args.answers.now c.requires.lent
+loop-i-init c =
+    begun c.args.width c.args.chain.now.bytes.now c.args.rates.now c.args.rows.now c.args.answers.now c.requires.lent
 
 pub offset_bounds-rows-at : goal.offset_bounds-rows-at
 offset_bounds-rows-at c = search rules
