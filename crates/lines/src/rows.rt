@@ -1,7 +1,7 @@
 // A rate's line, by its answer and its row.
 ghost use Rattle.std.specs.Prelude.{ℕ, pos, ◌≡◌, ◌+◌, ◌*◌, ◌≤◌, ◌++◌, length, drop};
-ghost use Rattle.text.specs.Words.{each, most_digits};
-ghost use Rattle.lines.specs.Lines.{spaced_factor, line_room};
+ghost use Rattle.text.specs.Words.{most_digits};
+ghost use Rattle.lines.specs.Lines.{factors_text, line_room};
 ghost use Rattle.book.specs.Limits.{max_members};
 ghost use Rattle.lines.specs.Private.Rows.{line_of};
 
@@ -13,7 +13,7 @@ fn put_factors(out: &mut [u8], end: usize, factors: &[u64], fours: &FourDigits) 
     requires room { (most_digits + 1) * length factors.now ≤ end }
     requires within { end ≤ length out.old }
     ensures place { (result ≤ end) × (end ≤ result + (most_digits + 1) * length factors.now) }
-    ensures written { drop result out.new ≡ each spaced_factor 0 factors.now ++ drop end out.old }
+    ensures written { drop result out.new ≡ factors_text factors.now ++ drop end out.old }
 {
     let mut at = end;
     for i in (0..factors.len()).rev() {

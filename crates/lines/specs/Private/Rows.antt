@@ -1,12 +1,12 @@
 -- The lines that answers and rows make.
 use Rattle.std.specs.Prelude.{ℕ, ℤ, pos, negsuc, suc, List, ◌++◌, take}
-use Rattle.text.specs.Words.{ascii, decimal, line_feed, each}
-use Rattle.lines.specs.Lines.{spaced_factor}
+use Rattle.text.specs.Words.{ascii, decimal, line_feed}
+use Rattle.lines.specs.Lines.{factors_text}
 
 -- What stands after a rate that is answered with n is the first n places of its row; a negative answer is minus a
 -- refusal's number.
 abbrev pub shown : ℤ → List ℕ → List ℕ
-shown (pos n) row = each spaced_factor 0 (take n row)
+shown (pos n) row = factors_text (take n row)
 shown (negsuc n) row = ascii " refused " ++ decimal (suc n)
 
 abbrev pub line_of : ℕ → ℤ → List ℕ → List ℕ

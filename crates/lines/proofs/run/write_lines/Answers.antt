@@ -4,12 +4,12 @@ use Rattle.std.proofs.lemmas.Int.{to_z-of_z}
 use Rattle.std.proofs.lemmas.List.{drop_all, append-nil}
 use Rattle.lines.specs.Lines.{rate_line, lines_text}
 use Rattle.lines.proofs.FromTheLast.{none, more, all_written}
-use Rattle.lines.proofs.Texts.{lines_none, lines_more}
+use Rattle.lines.proofs.Texts.{none_left, one_more}
 use Rattle.lines.proofs.Answered.{counted, line_there}
 use Rattle.lines.proofs.run.write_lines.Goals as goal
 
 pub loop-k-init : goal.loop-k-init
-loop-k-init c = none (lines_none c.args.book.now c.args.rates.now)
+loop-k-init c = none (none_left (rate_line c.args.book.now) c.args.rates.now)
 
 pub put_line-at-requires-clause-counted : goal.put_line-at-requires-clause-counted
 put_line-at-requires-clause-counted c =
@@ -23,7 +23,7 @@ loop-k-preserved c =
     let v = get_or c.args.rates.now (c.loop-k.k - 1) 0 in
     more c.loop-k.invariant (rate_line c.args.book.now v) c.loop-k-test.true
     c.put_line-at.ensures.place.0 c.put_line-at.ensures.place.1
-    (lines_more c.args.rates.now c.loop-k.k c.loop-k-test.true c.loop-k.auto.k c.args.book.now)
+    (one_more (rate_line c.args.book.now) c.args.rates.now c.loop-k.k c.loop-k-test.true c.loop-k.auto.k)
     (c.put_line-at.ensures.written
     ∙ ap (λ line. line ++ drop c.loop-k.at c.loop-k.out)
     (line_there _ _ _ _ c.requires.answers c.requires.rows called.answers called.rows (c.loop-k.k - 1) (omega arith)

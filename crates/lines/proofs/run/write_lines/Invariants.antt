@@ -1,10 +1,11 @@
 -- The lines of the rates from k on stand at the end.
 use Rattle.std.proofs.Common.{length}
-use Rattle.lines.specs.Lines.{line_room}
+use Rattle.lines.specs.Lines.{rate_line, line_room}
 use Rattle.lines.proofs.FromTheLast.{FromTheLast}
-use Rattle.lines.proofs.Texts.{lines_from}
+use Rattle.lines.proofs.Texts.{texts_from}
 use Rattle.lines.proofs.run.write_lines.Given as goal
 
 abbrev pub invariant-loop-k : goal.invariant-loop-k
 invariant-loop-k l =
-    FromTheLast (lines_from l.book l.rates) line_room (length l.rates) (length l.fn.out) l.fn.out l.k l.at l.out
+    FromTheLast (texts_from (rate_line l.book) l.rates) line_room (length l.rates) (length l.fn.out) l.fn.out l.k l.at
+    l.out
