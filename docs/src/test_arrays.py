@@ -42,7 +42,7 @@ LISTED = {
     "book/src/layout.rt": {"pub type Coefficients = [u32; COEFFICIENTS]"},
     "book/src/checks/walk.rt": {"counts: &mut [u8; 256]", "let mut counts = [0u8; 256]"},
     "numbers/src/bytes.rt": {"-> [u8; N]"},
-    "wide/src/number.rt": {"limbs: [u32; 6]"},
+    "wide/src/number.rt": {"limbs: [u32; 6]", "-> [u32; 6]"},
 }
 
 # The columns of a wide number and the limbs that they become. No call reaches them.
@@ -62,7 +62,11 @@ WIDE_LISTS = COLUMNS | {
     "book/src/checks/shares.rt": {"sums: &mut [u64; MAX_MEMBERS]", "let mut sums = [0u64; MAX_MEMBERS]"},
     "book/src/coefficients.rt": {"from_fn(|which| coefficient_at(bytes, at, which as u16))"},
     "numbers/src/bytes.rt": {"return from_fn(|k| bytes[at + k])", "from_fn(|k| byte_at(bytes, at + k))"},
-    "wide/src/number.rt": {"limbs: [0, 0, 0, 0, upper(x), low(x)]"},
+    "wide/src/number.rt": {
+        "limbs: [0, 0, 0, 0, upper(x), low(x)]",
+        "limbs: [f, e, d, c, b, a]",
+        "[f, e, d, c, b, a]",
+    },
 }
 
 # The lists that are lent: that of a call for one rate; those of a call for many, whose rows are cut into parts.

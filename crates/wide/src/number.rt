@@ -1,5 +1,6 @@
 // A whole number below 2^192, by value.
 ghost use Rattle.std.specs.Prelude.{◌≡◌};
+ghost use Rattle.wide.specs.Value.{value};
 
 use crate::columns::{low, upper};
 use std::marker::Model;
@@ -33,5 +34,25 @@ impl From<u64> for Wide {
         Wide {
             limbs: [0, 0, 0, 0, upper(x), low(x)],
         }
+    }
+}
+
+impl Wide {
+    // The number that six limbs stand for, the lowest first.
+    pub fn from_limbs(limbs: [u32; 6]) -> Wide
+        ensures { result ≡ value limbs }
+    {
+        let [a, b, c, d, e, f] = limbs;
+        Wide {
+            limbs: [f, e, d, c, b, a],
+        }
+    }
+
+    // Its six limbs, the lowest first.
+    pub fn to_limbs(self) -> [u32; 6]
+        ensures { value result ≡ self }
+    {
+        let [a, b, c, d, e, f] = self.limbs;
+        [f, e, d, c, b, a]
     }
 }
