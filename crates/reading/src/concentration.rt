@@ -1,9 +1,10 @@
 // From a reading to the concentration of its medium.
 ghost use Rattle.std.specs.Prelude.{◌≡◌, ◌≤◌, IfOk};
-ghost use Rattle.reading.specs.Reading.{max_concentration, through_medium, intake_answer};
+ghost use Rattle.reading.specs.Reading.{max_concentration, through_medium, unit_of, intake_answer};
 ghost use Rattle.reading.specs.Private.Parts.{sum_of};
 
 use crate::amounts::{Medium, Reading, Unit};
+use crate::codes;
 use crate::conversion::{whole, within_limit};
 use crate::error::ReadingError;
 use crate::rounding::product_rounded_up;
@@ -17,9 +18,16 @@ const HENRY_CONSTANT: u64 = 434;
 // What Henry's constant times AF is in: hundredths of millionths.
 const WHOLE_HENRY_ATTENUATION: u64 = 100_000_000;
 
-// The concentration that a reading stands for: value and uncertainty are each converted, added, and taken through the
-// medium with attenuation `af`.
-pub fn intake(unit: Unit, medium: Medium, af: u32, reading: Reading) -> Result<u64, ReadingError>
+// The concentration that a reading in the unit of a code stands for.
+pub fn intake(unit: u8, medium: Medium, af: u32, reading: Reading) -> Result<u64, ReadingError>
+    ensures { result ≡ intake_answer (unit_of unit) medium af reading }
+{
+    intake_in(codes::unit(unit), medium, af, reading)
+}
+
+// The same of a unit: value and uncertainty are each converted, added, and taken through the medium with attenuation
+// `af`.
+pub fn intake_in(unit: Unit, medium: Medium, af: u32, reading: Reading) -> Result<u64, ReadingError>
     ensures { result ≡ intake_answer unit medium af reading }
 {
     let value = whole(unit.amount(reading.value));

@@ -20,8 +20,8 @@ pub use error::ReadingError;
 pub use conversion::whole;
 
 // A reading with its uncertainty, in its medium: the concentration, or ground 7 or 8 (`intake_answer` of
-// specs/Reading.antt).
-pub use concentration::intake;
+// specs/Reading.antt), in the unit of any code, and in a unit.
+pub use concentration::{intake, intake_in};
 
 // The whole attenuation, in the millionths in which the intake takes it.
 pub use concentration::WHOLE_ATTENUATION;

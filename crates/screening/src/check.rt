@@ -10,7 +10,7 @@ use crate::fields::{
 };
 use book::MAX_RATE;
 use exposure::{Kind, out_of_range};
-use reading::{Medium, ReadingError, Unit, WHOLE_ATTENUATION, intake};
+use reading::{Medium, ReadingError, Unit, WHOLE_ATTENUATION, intake_in};
 use refusals::{Refusal, refuse_if};
 
 const MAX_TARGET: u32 = 1_000_000_000;
@@ -57,7 +57,7 @@ pub(crate) fn intake_of(job: &[u8]) -> Result<u64, ReadingError>
     if reading_unusable(job) {
         return Err(ReadingError::Unusable);
     }
-    intake(
+    intake_in(
         unit_of(job),
         medium_of(job),
         attenuation_of(job),

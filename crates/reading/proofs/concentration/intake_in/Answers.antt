@@ -4,7 +4,7 @@ use Rattle.std.proofs.lemmas.Result.{err_from_is_err_and}
 use Rattle.reading.specs.Reading.{whole_answer}
 use Rattle.reading.specs.Private.Conversion.{capped}
 use Rattle.reading.proofs.PartsJoined.{taken}
-use Rattle.reading.proofs.concentration.intake.Goals as goal
+use Rattle.reading.proofs.concentration.intake_in.Goals as goal
 
 pub returns : goal.returns
 returns c =
