@@ -40,7 +40,7 @@ fn periods_out_of_range(periods: &[u32]) -> bool
     let count = numbers / 2;
     let unpaired = numbers % 2 == 1;
     let miscounted = !(1..=MAX_PERIODS).contains(&count);
-    unpaired | miscounted | some_length_out_of_range(periods)
+    unpaired || miscounted || some_length_out_of_range(periods)
 }
 
 fn some_length_out_of_range(periods: &[u32]) -> bool

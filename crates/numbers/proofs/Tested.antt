@@ -83,7 +83,7 @@ tested_first p xs (suc n) l =
     ∙ list_any_more p xs n 0 (omega arith)
     ∙ ap (λ b. b || p (get_or xs n 0)) (tested_first p xs n (omega arith))
 
-some_in_places : (p : ℕ → Bool) (xs : List ℕ) → list_any p xs ≡ some_below (length xs) (λ i. p (get_or xs i 0))
+pub some_in_places : (p : ℕ → Bool) (xs : List ℕ) → list_any p xs ≡ some_below (length xs) (λ i. p (get_or xs i 0))
 some_in_places p xs =
     ap (list_any p) (sym (take-length xs)) ∙ tested_first p xs (length xs) (omega arith)
 

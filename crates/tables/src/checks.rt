@@ -21,10 +21,13 @@ pub(crate) fn check_table(rates: &[u32], book: &[u8]) -> Result<(), Refusal>
     )
 }
 
-// One of them exceeds the highest.
+// One of them exceeds the highest. Each is looked at, as many as there are, so that the compiler can take several at a
+// time: a list that is too long is read to its end too.
 #[tactic(auto, unfolding(crate::specs::Answers::some_rate_too_high))]
 fn some_rate_too_high(rates: &[u32]) -> bool
     ensures { result ≡ some_rate_too_high rates.now }
 {
-    rates.iter().any(|rate| MAX_RATE < *rate)
+    rates
+        .iter()
+        .fold(false, |found, rate| found | (MAX_RATE < *rate))
 }
