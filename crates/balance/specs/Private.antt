@@ -1,3 +1,2 @@
 -- Definitions that only the contracts of private functions and the proofs cite. No public contract rests on them.
 pub mod Fillable
-pub mod FeedsBegin

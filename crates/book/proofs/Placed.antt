@@ -40,7 +40,7 @@ module _ {book : List ℕ} {at : ℕ} {feeds : List Feed} where
   nothing h = record { capacity = h; placed = λ before done size p. rw append-nil (size, p) }
 
   -- One feed, and then those after it.
-  onward :
+  pub onward :
       {j end : ℕ} {v : Feed} {later : List ℕ} {feeds' : List Feed} → at < max_feeds → v ≡ feed_of book j →
       Extended book later (at + 1) end (set feeds at v) feeds' →
       Extended book (j ∷ later) at end feeds feeds'

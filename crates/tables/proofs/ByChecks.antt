@@ -21,7 +21,7 @@ use Rattle.tables.specs.Private.Tabulable.{Tabulable}
 abbrev pub refused_if : Bool → Checked
 refused_if short = cond short (Err BufferTooShort) (Ok tt)
 
-rate_low :
+pub rate_low :
     (rates : List ℕ) → some_rate_too_high rates ≡ false → (i : ℕ) → i < length rates → get_or rates i 0 ≤ max_rate
 unfolding some_rate_too_high
 rate_low rates none i l =

@@ -88,7 +88,7 @@ module _ (book : List ℕ) (accepted : Accepted book) where
       (omega (arith, walk_part i l))
 
   -- And the order in the array is the walk's.
-  in_order : (i : ℕ) → i ≤ members book → feeds_in_order book i ≡ walk book i
+  pub in_order : (i : ℕ) → i ≤ members book → feeds_in_order book i ≡ walk book i
   unfolding walk feeds_in_order
   in_order zero le = refl
   in_order (suc i) le =
